@@ -1,0 +1,10 @@
+// The figures of a board: processor, tasks, periods and measures, and the faults that a book answers.
+pub mod dues;
+pub mod faults;
+pub mod levels;
+pub mod measures;
+pub mod processors;
+pub mod offers;
+pub mod periods;
+mod ranges;
+pub mod tasks;
