@@ -29,9 +29,9 @@ pub with-period : (h p : ℕ) → period-fits p ≡ true → Of-periods h → Of
 with-period h p fits o = elim (cases-eq (h % p) 0) [
   | inl e ↦ subst (λ n. Of-periods n) (sym (lcm-same h p (period-pos p fits) e)) o
   | inr e ↦ record {
-      periods = p ∷ o .periods;
-      in-range = and-from _ _ fits (o .in-range);
-      doubled = rw pow-suc (omega (arith, o .doubled, lcm-doubles h p (period-pos p fits) e));
-      is = ap (λ n. lcm n p) (o .is);
-    }
+    periods = p ∷ o .periods;
+    in-range = and-from _ _ fits (o .in-range);
+    doubled = rw pow-suc (omega (arith, o .doubled, lcm-doubles h p (period-pos p fits) e));
+    is = ap (λ n. lcm n p) (o .is);
+  }
 ]

@@ -53,5 +53,6 @@ level-found ls n l fit at = elim (cases-lt n (length ls)) [
   where
     some-same : {x y : Level} → Some x ≡ Some y → x ≡ y
     some-same e = cc
+
     none-some : {y : Level} → None ≡ Some y → ⊥
     none-some e = let z : _≡_ {A = ℕ} 0 1 = cc in omega arith

@@ -1,6 +1,8 @@
 // Why a call is refused.
 ghost use mathlib.Core.Path.{_≡_};
 ghost use Rattle.board.specs.Faults.{numbered};
+use std::error::Error;
+use std::fmt;
 
 // A refusal, with the port that was named, or that does not fit, where there is one.
 #[derive(Clone, Copy, PartialEq, Eq, Debug)]
@@ -70,3 +72,13 @@ impl Fault {
         }
     }
 }
+
+pub impl fmt::Display for Fault as FaultDisplay {
+    fn fmt<W: fmt::Write>(&self, f: &mut fmt::Formatter<W>) -> fmt::Result {
+        let number = self.number();
+        let place = self.place();
+        write!(f, "refused with {number}, place {place}")
+    }
+}
+
+pub impl Error for Fault as FaultError {}

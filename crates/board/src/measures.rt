@@ -1,7 +1,7 @@
 // What a task does at a level.
 
 // The figures of one task at one level of one processor.
-#[derive(Clone, Copy, PartialEq, Eq, Debug)]
+#[derive(Clone, Copy)]
 pub struct Measure {
     // time of one job, in µs
     pub busy: u64,

@@ -9,9 +9,6 @@ use crate::levels::Level;
 pub mod makes;
 pub mod reads;
 
-// At most this many levels, and at most this many devices.
-pub const MOST: usize = 8;
-
 // The first places of each array hold the figures; those behind hold nothing of meaning.
 #[derive(Clone, Copy)]
 pub struct Processor {

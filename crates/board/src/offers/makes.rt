@@ -8,6 +8,7 @@ ghost use Rattle.board.specs.Processors.{standby-fits, Level-within};
 ghost use Rattle.board.specs.Tasks.{shares-fit, period-in-range, busy-time};
 ghost use Rattle.board.specs.Measures.{standby-sum, most-time, counts-in, jobs as jobs-in, measure as measured, belongs as belongs-to, offer-if};
 ghost use Rattle.board.specs.Views.{processor-figures, task-figures};
+use super::Offer;
 use crate::dues::Due;
 use crate::levels::Level;
 use crate::measures::Measure;
@@ -15,7 +16,6 @@ use crate::periods::Hyperperiod;
 use crate::processors::Processor;
 use crate::tasks::Task;
 use crate::tasks::makes::busy_time;
-use super::Offer;
 
 // The draw in µW: 1,000 times the level's power, and of each device its standby power times its share.
 fn draw(level: Level, standby: &[u64], shares: &[u64]) -> u64
@@ -81,7 +81,13 @@ fn measure(processor: &Processor, task: &Task, hyperperiod: u64, level: Level) -
     let jobs = jobs(task.due(), hyperperiod);
     let energy = jobs * (draw * busy + 1000 * task.access());
     let load = jobs * busy;
-    Measure { busy, draw, jobs, load, energy }
+    Measure {
+        busy,
+        draw,
+        jobs,
+        load,
+        energy,
+    }
 }
 
 impl Processor {

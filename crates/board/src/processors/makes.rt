@@ -7,11 +7,11 @@ ghost use mathlib.Core.List.{_++_};
 ghost use Rattle.board.specs.Processors.{level-fits, below, rising, standby-fits, processor-made};
 ghost use Rattle.board.specs.Views.{processor-view};
 ghost use Rattle.std.specs.shelf.Lawful.{all-pass};
+use super::Processor;
 use crate::faults::Fault;
 use crate::levels::Level;
 use crate::ranges::each_at_most;
 use crate::ranges::in_eight;
-use super::Processor;
 
 // The level's figures are in range.
 fn level_fits(level: &Level) -> bool

@@ -1,8 +1,8 @@
 // Reading a processor.
 ghost use mathlib.Core.Path.{_≡_};
 ghost use Rattle.board.specs.Views.{processor-figures};
-use crate::levels::Level;
 use super::Processor;
+use crate::levels::Level;
 
 impl Processor {
     // The levels, from level 0 on.

@@ -4,13 +4,13 @@ ghost use Prim.Native.Nat.{_≤_};
 ghost use Rattle.board.specs.Processors.{Processor-figures};
 ghost use Rattle.board.specs.Tasks.{Task-figures, figures-fit, due-fits, quick-enough, time-left, busy-time, judged};
 ghost use Rattle.board.specs.Views.{processor-figures, task-view, named-figures};
+use super::Task;
+use super::TaskFigures;
 use crate::dues::Due;
 use crate::faults::Fault;
 use crate::processors::Processor;
 use crate::ranges::each_at_most;
 use crate::ranges::in_eight;
-use super::Task;
-use super::TaskFigures;
 
 // Cycles over MHz, rounded up: the time in µs.
 pub(crate) fn busy_time(cycles: u64, mhz: u64) -> u64
@@ -64,7 +64,12 @@ fn quick_enough(processor: &Processor, clock: u64, figures: TaskFigures) -> bool
 
 impl Task {
     // The task that a port asks for at this time of the clock, in µs.
-    pub fn new(processor: &Processor, port: u64, clock: u64, figures: TaskFigures) -> Result<Task, Fault>
+    pub fn new(
+        processor: &Processor,
+        port: u64,
+        clock: u64,
+        figures: TaskFigures,
+    ) -> Result<Task, Fault>
         ensures { λ r. ⌜ task-view r ≡ judged (processor-figures (now (processor .entry))) port clock (named-figures (figures .entry)) ⌝ }
     {
         if !figures_fit(processor, figures) {

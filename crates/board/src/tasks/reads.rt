@@ -1,8 +1,8 @@
 // Reading a task.
 ghost use mathlib.Core.Path.{_≡_};
 ghost use Rattle.board.specs.Views.{task-figures};
-use crate::dues::Due;
 use super::Task;
+use crate::dues::Due;
 
 impl Task {
     pub fn cycles(&self) -> u64

@@ -9,9 +9,10 @@ loop-smaller-holds c = ((λ d p q. (p, q)), λ d p q. (p, q))
 pub loop-smaller-again : need.loop-smaller-again
 loop-smaller-again c =
     let x = c .loop-smaller .larger in
-    let y = c .loop-smaller .smaller in
-    ((λ d p q. c .loop-smaller .inv .0 d (dvd-mod-iff d p .0 q) p),
-      λ d p q. let xy = c .loop-smaller .inv .1 d p q in (xy .1, dvd-mod-iff d (xy .1) .1 (xy .0)))
+    let y = c .loop-smaller .smaller in (
+      (λ d p q. c .loop-smaller .inv .0 d (dvd-mod-iff d p .0 q) p),
+      λ d p q. let xy = c .loop-smaller .inv .1 d p q in (xy .1, dvd-mod-iff d (xy .1) .1 (xy .0)),
+    )
 
 pub returns : need.returns
 returns c =

@@ -11,12 +11,13 @@ loop-i-again g c =
     let all = c .loop-i .all in
     let items = c .args .items .now in
     let i = c .loop-i .i in
-    let x = c .index-items-i .result in
-    (length-set all i x ∙ c .loop-i .inv .0,
+    let x = c .index-items-i .result in (
+      length-set all i x ∙ c .loop-i .inv .0,
       take-more-set all i x (omega (arith, c .loop-i .inv .0))
-      ∙ ap (λ ys. ys ++ x ∷ []) (c .loop-i .inv .1)
-      ∙ ap (λ y. take i items ++ y ∷ []) (c .index-items-i .is)
-      ∙ sym (take-more items i x (omega arith)))
+          ∙ ap (λ ys. ys ++ x ∷ []) (c .loop-i .inv .1)
+          ∙ ap (λ y. take i items ++ y ∷ []) (c .index-items-i .is)
+          ∙ sym (take-more items i x (omega arith)),
+    )
 
 pub returns : need.returns
 returns g c =

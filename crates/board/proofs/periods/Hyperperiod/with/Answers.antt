@@ -19,9 +19,10 @@ ghost-result c =
     let h = c .args .self .now in
     let p = c .args .period in
     let is = c .common-multiple-micros .ensures .value in
-    let fits = in-range p (omega arith) (omega arith) in
-    (omega (arith, lcm-pos (h .micros) p (h .positive) (omega arith)),
-      (omega arith, (subst (λ n. ∥ Of-periods n ∥₁) (sym is) (∥∥₁-map (h .made) (with-period (h .micros) p fits)), tt)))
+    let fits = in-range p (omega arith) (omega arith) in (
+      omega (arith, lcm-pos (h .micros) p (h .positive) (omega arith)),
+      (omega arith, (subst (λ n. ∥ Of-periods n ∥₁) (sym is) (∥∥₁-map (h .made) (with-period (h .micros) p fits)), tt)),
+    )
 
 pub returns : need.returns
 returns c =
