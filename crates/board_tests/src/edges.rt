@@ -36,12 +36,24 @@ fn task_refused(processor: &Processor, clock: u64, figures: TaskFigures) -> (u8,
 }
 
 fn figures(cycles: u64, access: u64, shares: &[u64], due: Due) -> TaskFigures<'_> {
-    TaskFigures { cycles, access, shares, due }
+    TaskFigures {
+        cycles,
+        access,
+        shares,
+        due,
+    }
 }
 
 #[test]
 fn level_figures() -> Result<(), Fail> {
-    let cases = [(0, 1, 21), (1, 0, 21), (1, 1, 0), (4_000, 60_000, 0), (4_001, 60_000, 21), (4_000, 60_001, 21)];
+    let cases = [
+        (0, 1, 21),
+        (1, 0, 21),
+        (1, 1, 0),
+        (4_000, 60_000, 0),
+        (4_001, 60_000, 21),
+        (4_000, 60_001, 21),
+    ];
     for (mhz, mw, expected) in cases {
         check_eq(processor_refused(&[Level { mhz, mw }], &[]), expected)?;
     }
@@ -52,7 +64,10 @@ fn level_figures() -> Result<(), Fail> {
 fn levels_rise() -> Result<(), Fail> {
     let lower = Level { mhz: 100, mw: 100 };
     for (mhz, mw, expected) in [(101, 101, 0), (100, 101, 21), (101, 100, 21), (99, 200, 21)] {
-        check_eq(processor_refused(&[lower, Level { mhz, mw }], &[]), expected)?;
+        check_eq(
+            processor_refused(&[lower, Level { mhz, mw }], &[]),
+            expected,
+        )?;
     }
     Ok(())
 }
@@ -71,14 +86,38 @@ fn counts() -> Result<(), Fail> {
 fn task_figures() -> Result<(), Fail> {
     let processor = Processor::new(&[Level { mhz: 4_000, mw: 1 }], &[0])?;
     let due = Due::Period(10_000_000);
-    check_eq(task_refused(&processor, 0, figures(0, 0, &[0], due)), (25, 7))?;
-    check_eq(task_refused(&processor, 0, figures(1, 1_000_000, &[1_000], due)), (0, 0))?;
-    check_eq(task_refused(&processor, 0, figures(1_000_000_000, 0, &[0], due)), (0, 0))?;
-    check_eq(task_refused(&processor, 0, figures(1_000_000_001, 0, &[0], due)), (25, 7))?;
-    check_eq(task_refused(&processor, 0, figures(1, 1_000_001, &[0], due)), (25, 7))?;
-    check_eq(task_refused(&processor, 0, figures(1, 0, &[1_001], due)), (25, 7))?;
-    check_eq(task_refused(&processor, 0, figures(1, 0, &[], due)), (25, 7))?;
-    check_eq(task_refused(&processor, 0, figures(1, 0, &[0, 0], due)), (25, 7))
+    check_eq(
+        task_refused(&processor, 0, figures(0, 0, &[0], due)),
+        (25, 7),
+    )?;
+    check_eq(
+        task_refused(&processor, 0, figures(1, 1_000_000, &[1_000], due)),
+        (0, 0),
+    )?;
+    check_eq(
+        task_refused(&processor, 0, figures(1_000_000_000, 0, &[0], due)),
+        (0, 0),
+    )?;
+    check_eq(
+        task_refused(&processor, 0, figures(1_000_000_001, 0, &[0], due)),
+        (25, 7),
+    )?;
+    check_eq(
+        task_refused(&processor, 0, figures(1, 1_000_001, &[0], due)),
+        (25, 7),
+    )?;
+    check_eq(
+        task_refused(&processor, 0, figures(1, 0, &[1_001], due)),
+        (25, 7),
+    )?;
+    check_eq(
+        task_refused(&processor, 0, figures(1, 0, &[], due)),
+        (25, 7),
+    )?;
+    check_eq(
+        task_refused(&processor, 0, figures(1, 0, &[0, 0], due)),
+        (25, 7),
+    )
 }
 
 #[test]
@@ -86,16 +125,47 @@ fn due_times() -> Result<(), Fail> {
     let processor = Processor::new(&[Level { mhz: 10, mw: 1 }], &[])?;
     let now = 1_000;
     for (period, expected) in [(99, 26), (100, 0), (10_000_000, 0), (10_000_001, 26)] {
-        check_eq(task_refused(&processor, now, figures(1, 0, &[], Due::Period(period))).0, expected)?;
+        check_eq(
+            task_refused(&processor, now, figures(1, 0, &[], Due::Period(period))).0,
+            expected,
+        )?;
     }
-    for (deadline, expected) in [(now, 26), (now + 1, 0), (now + 60_000_000, 0), (now + 60_000_001, 26)] {
-        check_eq(task_refused(&processor, now, figures(1, 0, &[], Due::Deadline(deadline))).0, expected)?;
+    for (deadline, expected) in [
+        (now, 26),
+        (now + 1, 0),
+        (now + 60_000_000, 0),
+        (now + 60_000_001, 26),
+    ] {
+        check_eq(
+            task_refused(&processor, now, figures(1, 0, &[], Due::Deadline(deadline))).0,
+            expected,
+        )?;
     }
     // 2,000 cycles at 10 MHz are 200 µs, and one cycle more is 201
-    check_eq(task_refused(&processor, now, figures(2_000, 0, &[], Due::Period(200))), (0, 0))?;
-    check_eq(task_refused(&processor, now, figures(2_001, 0, &[], Due::Period(200))), (27, 7))?;
-    check_eq(task_refused(&processor, now, figures(2_000, 0, &[], Due::Deadline(1_200))), (0, 0))?;
-    check_eq(task_refused(&processor, now, figures(2_001, 0, &[], Due::Deadline(1_200))), (27, 7))
+    check_eq(
+        task_refused(&processor, now, figures(2_000, 0, &[], Due::Period(200))),
+        (0, 0),
+    )?;
+    check_eq(
+        task_refused(&processor, now, figures(2_001, 0, &[], Due::Period(200))),
+        (27, 7),
+    )?;
+    check_eq(
+        task_refused(
+            &processor,
+            now,
+            figures(2_000, 0, &[], Due::Deadline(1_200)),
+        ),
+        (0, 0),
+    )?;
+    check_eq(
+        task_refused(
+            &processor,
+            now,
+            figures(2_001, 0, &[], Due::Deadline(1_200)),
+        ),
+        (27, 7),
+    )
 }
 
 // The hyperperiod of two periods, or 0.
@@ -115,8 +185,7 @@ fn hyperperiods() -> Result<(), Fail> {
     check_eq(hyperperiod_of(1_000, 500), 1_000)?;
     check_eq(hyperperiod_of(600, 400), 1_200)?;
     check_eq(hyperperiod_of(10_000_000, 6_000_000), 30_000_000)?;
-    check_eq(hyperperiod_of(10_000_000, 768), 60_000_000)
-        .note("60,000,000 µs is the longest")?;
+    check_eq(hyperperiod_of(10_000_000, 768), 60_000_000).note("60,000,000 µs is the longest")?;
     check_eq(hyperperiod_of(10_000_000, 700), 0)?;
     check_eq(hyperperiod_of(99, 500), 0)
 }
@@ -126,7 +195,12 @@ fn offers() -> Result<(), Fail> {
     let levels = [Level { mhz: 100, mw: 100 }, Level { mhz: 200, mw: 300 }];
     let processor = Processor::new(&levels, &[40, 500])?;
     // 300 µs at level 0, 150 µs at level 1
-    let task = Task::new(&processor, 1, 0, figures(30_000, 20, &[1_000, 10], Due::Period(299)))?;
+    let task = Task::new(
+        &processor,
+        1,
+        0,
+        figures(30_000, 20, &[1_000, 10], Due::Period(299)),
+    )?;
     let alone = Hyperperiod::of_none().with(299).ok_or(())?;
     check(processor.offer(&task, &alone, 0).is_none())?;
     check(processor.offer(&task, &alone, 2).is_none())?;

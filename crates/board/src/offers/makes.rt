@@ -5,8 +5,8 @@ ghost use Prim.Native.Nat.{_≤_, _+_, _*_};
 ghost use lib.ListN.{length};
 ghost use Rattle.std.specs.Options.{mapped};
 ghost use Rattle.board.specs.Processors.{standby-fits, Level-within};
-ghost use Rattle.board.specs.Tasks.{shares-fit, period-in-range, busy-time};
-ghost use Rattle.board.specs.Measures.{standby-sum, most-time, counts-in, jobs as jobs-in, measure as measured, belongs as belongs-to, offer-if};
+ghost use Rattle.board.specs.Tasks.{shares-fit, period-in-range};
+ghost use Rattle.board.specs.Measures.{standby-sum, most-time, counts-in, jobs as jobs-in, offered, measure as measured, belongs as belongs-to, offer-if};
 ghost use Rattle.board.specs.Views.{processor-figures, task-figures};
 use super::Offer;
 use crate::dues::Due;
@@ -61,6 +61,14 @@ fn most_time(due: Due) -> u64
     }
 }
 
+// The task is done in time at the level.
+fn is_offered(task: &Task, level: Level) -> bool
+    requires { ⌜ Level-within level ⌝ }
+    ensures { λ r. ⌜ r ≡ offered (task-figures (now (task .entry))) level ⌝ }
+{
+    busy_time(task.cycles(), level.mhz) <= most_time(task.due())
+}
+
 // The task has a share for each device, and a periodic one stands in the hyperperiod.
 fn belongs(processor: &Processor, task: &Task, hyperperiod: u64) -> bool
     ensures { λ r. ⌜ r ≡ belongs-to (processor-figures (now (processor .entry))) (task-figures (now (task .entry))) hyperperiod ⌝ }
@@ -73,7 +81,7 @@ fn measure(processor: &Processor, task: &Task, hyperperiod: u64, level: Level) -
     requires level { ⌜ Level-within level ⌝ }
     requires shares { ⌜ length (task-figures (now task) .shares) ≡ length (processor-figures (now processor) .standby) ⌝ }
     requires short { ⌜ hyperperiod ≤ 60000000 ⌝ }
-    requires taken { ⌜ busy-time (now task .cycles) (level .mhz) ≤ most-time (now task .due) ⌝ }
+    requires taken { ⌜ offered (task-figures (now task)) level ≡ true ⌝ }
     ensures { λ r. ⌜ r ≡ measured (processor-figures (now (processor .entry))) (task-figures (now (task .entry))) hyperperiod level ⌝ }
 {
     let busy = busy_time(task.cycles(), level.mhz);
@@ -104,7 +112,7 @@ impl Processor {
             return None;
         }
         let level = levels[number];
-        if busy_time(task.cycles(), level.mhz) > most_time(task.due()) {
+        if !is_offered(task, level) {
             return None;
         }
         Some(Offer {

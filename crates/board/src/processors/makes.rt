@@ -32,14 +32,19 @@ fn each_level_fits(levels: &[Level]) -> bool
     true
 }
 
+// The upper level has more speed and more power.
+fn level_below(lower: &Level, upper: &Level) -> bool
+    ensures { λ r. ⌜ r ≡ below (now (lower .entry)) (now (upper .entry)) ⌝ }
+{
+    lower.mhz < upper.mhz && lower.mw < upper.mw
+}
+
 // Speed and power both rise from each level to the next.
 fn each_level_rises(levels: &[Level]) -> bool
     ensures { λ r. ⌜ r ≡ rising (now (levels .entry)) ⌝ }
 {
     for i in 1..levels.len() {
-        let lower = levels[i - 1];
-        let upper = levels[i];
-        if lower.mhz >= upper.mhz || lower.mw >= upper.mw {
+        if !level_below(&levels[i - 1], &levels[i]) {
             return false;
         }
     }

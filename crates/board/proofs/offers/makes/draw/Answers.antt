@@ -1,10 +1,6 @@
-use mathlib.Core.Path.{_≡_, refl}
 use native.Mathlib.Omega.{arith}
 use Rattle.board.proofs.Standby.{standby-turn, standby-end, few-devices, one-each, device-within}
 use Rattle.board.proofs.offers.makes.draw.Needs as need
-
-pub loop-device-holds : need.loop-device-holds
-loop-device-holds c = (refl, omega arith)
 
 pub index-shares-device : need.index-shares-device
 index-shares-device c = omega (arith, one-each (c .args .standby .now) (c .args .shares .now) (c .pre .1 .0) (c .pre .1 .1))

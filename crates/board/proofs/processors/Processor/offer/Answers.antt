@@ -3,17 +3,16 @@ use mathlib.Core.Bool.{true, false, cond}
 use mathlib.Core.List.{List}
 use Prim.Native.Nat.{ℕ, _≤_, _<_}
 use native.Mathlib.Omega.{arith}
-use lib.Dec.{leb, eqb}
+use lib.Dec.{eqb}
 use lib.ListN.{length, getD}
 use Rattle.std.specs.declared.option.Option.{Option}
 use Rattle.std.specs.declared.option.Option.the-variants.{None, Some}
-use Rattle.std.proofs.shelf.Tests.{le-leb, lt-leb, eqb-true, and-parts, cond-true, cond-false}
-use Rattle.board.specs.declared.dues.Due.{Due}
+use Rattle.std.proofs.shelf.Tests.{eqb-true, and-parts, cond-true, cond-false}
 use Rattle.board.specs.declared.levels.Level.{Level}
 use Rattle.board.specs.declared.measures.Measure.{Measure}
 use Rattle.board.specs.Processors.{Processor-figures, levels-fit, Level-within}
-use Rattle.board.specs.Tasks.{Task-figures, busy-time}
-use Rattle.board.specs.Measures.{most-time, measure, offered, level-at, offer-at, offer, offer-if, belongs, counts-in, Offered}
+use Rattle.board.specs.Tasks.{Task-figures}
+use Rattle.board.specs.Measures.{measure, offered, level-at, offer-at, offer, offer-if, belongs, counts-in, Offered}
 use Rattle.board.specs.Views.{processor-figures, task-figures}
 use Rattle.board.proofs.Leveling.{level-within, level-there, level-past}
 use Rattle.board.proofs.Offering.{offered-here}
@@ -29,13 +28,6 @@ in-range ls xs n d e fit h = level-within ls n d (subst (λ ys. levels-fit ys �
 there : (ls xs : List Level) (n : ℕ) (d : Level) → ls ≡ xs → n < length ls → level-at xs n ≡ Some (getD ls n d)
 there ls xs n d e h = ap (λ ys. level-at ys n) (sym e) ∙ level-there ls n d h
 
--- how the busy time at the level compares, by what the calls gave
-busy-is : (t : Task-figures) (l : Level) (busy cycles : ℕ) → busy ≡ busy-time cycles (l .mhz) → cycles ≡ t .cycles → busy ≡ busy-time (t .cycles) (l .mhz)
-busy-is t l busy cycles e f = e ∙ ap (λ n. busy-time n (l .mhz)) f
-
-most-is : (t : Task-figures) (most : ℕ) (due : Due) → most ≡ most-time due → due ≡ t .due → most ≡ most-time (t .due)
-most-is t most due e f = e ∙ ap most-time f
-
 pub returns-then-number-levels : need.returns-then-number-levels
 returns-then-number-levels c =
     let p = processor-figures (c .args .self .now) in
@@ -43,33 +35,24 @@ returns-then-number-levels c =
     let past : length (p .levels) ≤ c .args .number = subst (λ xs. length xs ≤ c .args .number) (c .levels-levels .ensures) (c .if-number-levels .taken) in
     at-level p t (c .args .hyperperiod .now .micros) (c .args .number) None None (c .if-not-belongs .ensures tt ∙ ap (belongs p t) (c .micros .ensures)) (level-past (p .levels) (c .args .number) past) refl
 
-pub busy-time-requires : need.busy-time-requires
-busy-time-requires c κs =
-    let l = in-range (c .levels-levels .result .now) _ (c .args .number) _ (c .levels-levels .ensures) (c .args .self .now .«levels_fit») (omega arith) in
-    (l .runs, (l .fast, omega (arith, c .args .task .now .bounded)))
+pub is-offered-requires : need.is-offered-requires
+is-offered-requires c κs = in-range (c .levels-levels .result .now) _ (c .args .number) _ (c .levels-levels .ensures) (c .args .self .now .«levels_fit») (omega arith)
 
-pub returns-then-busy-time-most-time : need.returns-then-busy-time-most-time
-returns-then-busy-time-most-time c =
+pub returns-then-not-is-offered : need.returns-then-not-is-offered
+returns-then-not-is-offered c =
     let p = processor-figures (c .args .self .now) in
     let t = task-figures (c .args .task .now) in
     let h = c .args .hyperperiod .now .micros in
     let l : Level = getD (c .levels-levels .result .now) (c .args .number) (record { mhz = 0; mw = 0 }) in
-    let busy = busy-is t l (c .busy-time .result) (c .cycles .result) (c .busy-time .ensures) (c .cycles .ensures) in
-    let most = most-is t (c .most-time .result) (c .due .result) (c .most-time .ensures) (c .due .ensures) in
-    at-level p t h (c .args .number) (Some l) None (c .if-not-belongs .ensures tt ∙ ap (belongs p t) (c .micros .ensures)) (there (c .levels-levels .result .now) (p .levels) (c .args .number) _ (c .levels-levels .ensures) (omega arith)) (sym (cond-false (offered t l) (Some (measure p t h l)) None (lt-leb _ _ (omega arith))))
+    at-level p t h (c .args .number) (Some l) None (c .if-not-belongs .ensures tt ∙ ap (belongs p t) (c .micros .ensures)) (there (c .levels-levels .result .now) (p .levels) (c .args .number) _ (c .levels-levels .ensures) (omega arith)) (sym (cond-false (offered t l) (Some (measure p t h l)) None (sym (c .if-not-is-offered .ensures tt))))
 
 pub measure-requires : need.measure-requires
-measure-requires c κs =
-    let t = task-figures (c .args .task .now) in
-    let l : Level = getD (c .levels-levels .result .now) (c .args .number) (record { mhz = 0; mw = 0 }) in
-    let busy = busy-is t l (c .busy-time .result) (c .cycles .result) (c .busy-time .ensures) (c .cycles .ensures) in
-    let most = most-is t (c .most-time .result) (c .due .result) (c .most-time .ensures) (c .due .ensures) in
-    record {
-      level = in-range (c .levels-levels .result .now) _ (c .args .number) _ (c .levels-levels .ensures) (c .args .self .now .«levels_fit») (omega arith);
-      shares = eqb-true _ _ (and-parts _ _ (sym (c .if-not-belongs .ensures tt)) .0);
-      short = omega (arith, c .args .hyperperiod .now .short);
-      taken = omega arith;
-    }
+measure-requires c κs = record {
+  level = in-range (c .levels-levels .result .now) _ (c .args .number) _ (c .levels-levels .ensures) (c .args .self .now .«levels_fit») (omega arith);
+  shares = eqb-true _ _ (and-parts _ _ (sym (c .if-not-belongs .ensures tt)) .0);
+  short = omega (arith, c .args .hyperperiod .now .short);
+  taken = sym (c .if-not-is-offered .ensures tt);
+}
 
 pub ghost-result : need.ghost-result
 ghost-result c =
@@ -77,11 +60,9 @@ ghost-result c =
     let t = c .args .task .now in
     let h = c .args .hyperperiod .now in
     let l : Level = getD (c .levels-levels .result .now) (c .args .number) (record { mhz = 0; mw = 0 }) in
-    let busy = busy-is (task-figures t) l (c .busy-time .result) (c .cycles .result) (c .busy-time .ensures) (c .cycles .ensures) in
-    let most = most-is (task-figures t) (c .most-time .result) (c .due .result) (c .most-time .ensures) (c .due .ensures) in
     let belong : belongs (processor-figures p) (task-figures t) (h .micros) ≡ true = sym (c .if-not-belongs .ensures tt ∙ ap (belongs (processor-figures p) (task-figures t)) (c .micros .ensures)) in
     let parts = and-parts (eqb (length (task-figures t .shares)) (length (processor-figures p .standby))) (counts-in (h .micros) (t .due)) belong in
-    let here = offered-here p t (h .micros) l (c .args .number) (eqb-true _ _ (parts .0)) (parts .1) (h .short) (h .made) (there (c .levels-levels .result .now) _ (c .args .number) _ (c .levels-levels .ensures) (omega arith)) (le-leb _ _ (omega arith)) in
+    let here = offered-here p t (h .micros) l (c .args .number) (eqb-true _ _ (parts .0)) (parts .1) (h .short) (h .made) (there (c .levels-levels .result .now) _ (c .args .number) _ (c .levels-levels .ensures) (omega arith)) (sym (c .if-not-is-offered .ensures tt)) in
     (subst (λ m. Offered m) (sym (c .measure .ensures ∙ ap (λ n. measure (processor-figures p) (task-figures t) n l) (c .micros-2 .ensures))) here, tt)
 
 pub returns : need.returns
@@ -90,6 +71,4 @@ returns c =
     let t = task-figures (c .args .task .now) in
     let h = c .args .hyperperiod .now .micros in
     let l : Level = getD (c .levels-levels .result .now) (c .args .number) (record { mhz = 0; mw = 0 }) in
-    let busy = busy-is t l (c .busy-time .result) (c .cycles .result) (c .busy-time .ensures) (c .cycles .ensures) in
-    let most = most-is t (c .most-time .result) (c .due .result) (c .most-time .ensures) (c .due .ensures) in
-    at-level p t h (c .args .number) (Some l) (Some (c .measure .result)) (c .if-not-belongs .ensures tt ∙ ap (belongs p t) (c .micros .ensures)) (there (c .levels-levels .result .now) (p .levels) (c .args .number) _ (c .levels-levels .ensures) (omega arith)) (ap Some (c .measure .ensures ∙ ap (λ n. measure p t n l) (c .micros-2 .ensures)) ∙ sym (cond-true (offered t l) (Some (measure p t h l)) None (le-leb _ _ (omega arith))))
+    at-level p t h (c .args .number) (Some l) (Some (c .measure .result)) (c .if-not-belongs .ensures tt ∙ ap (belongs p t) (c .micros .ensures)) (there (c .levels-levels .result .now) (p .levels) (c .args .number) _ (c .levels-levels .ensures) (omega arith)) (ap Some (c .measure .ensures ∙ ap (λ n. measure p t n l) (c .micros-2 .ensures)) ∙ sym (cond-true (offered t l) (Some (measure p t h l)) None (sym (c .if-not-is-offered .ensures tt))))
