@@ -1,8 +1,9 @@
 // Periods and their least common multiple.
 ghost use mathlib.Core.Path.{_≡_};
+ghost use mathlib.Core.List.{[]};
 ghost use Prim.Native.Nat.{_≤_};
 ghost use Rattle.std.specs.Options.{mapped};
-ghost use Rattle.board.specs.Periods.{lcm, Greatest-divisor, Least-multiple, Of-periods, hyperperiod-with};
+ghost use Rattle.board.specs.Periods.{lcm, hyperperiod, Greatest-divisor, Least-multiple, Of-periods, hyperperiod-with};
 
 // The least common multiple of the periods of all tasks that stand, in µs.
 #[derive(Clone, Copy)]
@@ -36,12 +37,21 @@ fn common_multiple(a: u64, b: u64) -> u64
     a / common_divisor(a, b) * b
 }
 
+// The least common multiple of no numbers.
+fn multiple_of_none() -> u64
+    ensures { λ r. ⌜ r ≡ hyperperiod [] ⌝ }
+{
+    1
+}
+
 impl Hyperperiod {
     // Of no periods at all.
     pub fn of_none() -> Hyperperiod
-        ensures { λ r. ⌜ r .micros ≡ 1 ⌝ }
+        ensures { λ r. ⌜ r .micros ≡ hyperperiod [] ⌝ }
     {
-        Hyperperiod { micros: 1 }
+        Hyperperiod {
+            micros: multiple_of_none(),
+        }
     }
 
     // With one period more; none if the period is out of range or the hyperperiod too long.
