@@ -23,16 +23,16 @@ use Rattle.plans.specs.Promises.{Rows, Measured}
 use Rattle.plans.proofs.Members.{cond-by, map-out, append-left, append-right, append-out, only, none-some}
 
 -- where a joined list has a member from
-joined-in : {X Y : Type 0} (f : X → List Y) (xs : List X) (x : X) (y : Y) → In x xs → In y (f x) → In y (joined f xs)
+pub joined-in : {X Y : Type 0} (f : X → List Y) (xs : List X) (x : X) (y : Y) → In x xs → In y (f x) → In y (joined f xs)
 joined-in f [] x y h i = absurd h
 joined-in {X} f (z ∷ xs) x y (inl e) i = append-left (f z) (joined f xs) y (subst (λ (a : X). In y (f a)) e i)
 joined-in f (z ∷ xs) x y (inr h) i = append-right (f z) (joined f xs) y (joined-in f xs x y h i)
 
-joined-out : {X Y : Type 0} (f : X → List Y) (xs : List X) (y : Y) → In y (joined f xs) → (x : X) × In y (f x)
+pub joined-out : {X Y : Type 0} (f : X → List Y) (xs : List X) (y : Y) → In y (joined f xs) → (x : X) × In y (f x)
 joined-out f [] y h = absurd h
 joined-out f (z ∷ xs) y h = ⊎-elim (λ i. (z, i)) (joined-out f xs y) (append-out (f z) (joined f xs) y h)
 
-counting-in : (n a i : ℕ) → a ≤ i → i < a + n → In i (counting a n)
+pub counting-in : (n a i : ℕ) → a ≤ i → i < a + n → In i (counting a n)
 counting-in zero a i low high = absurd (omega arith)
 counting-in (suc n) a i low high = ⊎-elim (λ lt. inr (counting-in n (a + 1) i (omega arith) (omega arith))) (λ le. inl (omega arith)) (cases-lt a i)
 
