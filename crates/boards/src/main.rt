@@ -1,4 +1,14 @@
 // Measures the example board, and prints a line for each port and level, with its price under each kind.
+// Then plans the fourteen boards with known plans.
+mod cases;
+mod rows;
+mod texts;
+
+use crate::cases::print_cases;
+use crate::rows::Plain;
+use crate::rows::plain_task;
+use crate::rows::with_due;
+use crate::texts::numbers_text;
 use board::dues::Due;
 use board::faults::Fault;
 use board::faults::FaultDebug;
@@ -20,43 +30,6 @@ use cost::peaks::Peak;
 use cost::peaks::PeakKind;
 use std::alloc::Global;
 use std::error::AnyError;
-
-// A periodic task without access energy, for a processor without devices.
-fn plain_task(processor: &Processor, port: u64, cycles: u64, period: u64) -> Result<Task, Fault> {
-    let figures = TaskFigures {
-        cycles,
-        access: 0,
-        shares: &[],
-        due: Due::Period(period),
-    };
-    Task::new(processor, port, 0, figures)
-}
-
-// The hyperperiod with the period of one port more.
-fn with_period(hyperperiod: &Hyperperiod, port: u64, period: u64) -> Result<Hyperperiod, Fault> {
-    match hyperperiod.with(period) {
-        Some(longer) => Ok(longer),
-        None => Err(Fault::LongHyperperiod(port)),
-    }
-}
-
-// The numbers of a cost, joined by commas.
-fn numbers_text<K: Kind>(heap: Global, cost: &K) -> Result<String, AnyError> {
-    let mut text = String::new(heap);
-    for i in 0..usize::MAX {
-        match cost.number(i) {
-            Some(number) => {
-                if i > 0 {
-                    text.push_str(",")?;
-                }
-                let digits = number.to_string(heap)?;
-                text.push_str(digits.as_str())?;
-            }
-            None => break,
-        }
-    }
-    Ok(text)
-}
 
 // The price of a measure, or a hyphen if the kind declines it.
 fn price_text<K: Kind>(heap: Global, measure: &Measure) -> Result<String, AnyError> {
@@ -96,17 +69,36 @@ fn print_levels(
 fn run(rt: &LibcRuntime) -> Result<(), AnyError> {
     let levels = [Level { mhz: 100, mw: 100 }, Level { mhz: 200, mw: 300 }];
     let processor = Processor::new(&levels, &[])?;
-    let first = plain_task(&processor, 1, 40_000, 1_000)?;
-    let second = plain_task(&processor, 2, 30_000, 500)?;
-    let hyperperiod = with_period(&Hyperperiod::of_none(), 1, 1_000)?;
-    let hyperperiod = with_period(&hyperperiod, 2, 500)?;
+    let first = Plain {
+        cycles: 40_000,
+        due: Due::Period(1_000),
+    };
+    let second = Plain {
+        cycles: 30_000,
+        due: Due::Period(500),
+    };
+    let hyperperiod = with_due(&Hyperperiod::of_none(), 1, first.due)?;
+    let hyperperiod = with_due(&hyperperiod, 2, second.due)?;
     println!(rt, "hyperperiod {} us", hyperperiod.micros())?;
     println!(
         rt,
         "port level busy_us draw_uw jobs load_us energy_pj offered e p b"
     )?;
-    print_levels(rt, &processor, &hyperperiod, 1, &first)?;
-    print_levels(rt, &processor, &hyperperiod, 2, &second)
+    print_levels(
+        rt,
+        &processor,
+        &hyperperiod,
+        1,
+        &plain_task(&processor, 1, first)?,
+    )?;
+    print_levels(
+        rt,
+        &processor,
+        &hyperperiod,
+        2,
+        &plain_task(&processor, 2, second)?,
+    )?;
+    print_cases(rt, &processor)
 }
 
 fn main(rt: LibcRuntime) -> Result<(), AnyError> {
