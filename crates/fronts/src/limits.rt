@@ -51,6 +51,13 @@ pub(crate) fn passed_limit<K: Kind>(rows: &[Row]) -> Option<Fault>
     None
 }
 
+// The largest sum of loads that a row admits, in µs: its own limit, or what the later rows leave.
+fn admitted(left: Option<u64>, limit: u64) -> u64
+    ensures { λ r. ⌜ r ≡ lesser left limit ⌝ }
+{
+    lesser_of(left, limit)
+}
+
 // For each row the largest sum of loads that it admits, in µs. What stands behind the rows' own
 // places is of no meaning.
 pub(crate) fn bounds<K: Kind>(rows: &[Row]) -> [u64; 48]
@@ -62,7 +69,7 @@ pub(crate) fn bounds<K: Kind>(rows: &[Row]) -> [u64; 48]
     let mut left: Option<u64> = None;
     for i in (0..rows.len()).rev() {
         let row = rows[i];
-        let bound = lesser_of(left, row.limit);
+        let bound = admitted(left, row.limit);
         bounds[i] = bound;
         left = Some(bound.saturating_sub(smallest::<K>(&row.offers)));
     }

@@ -1,7 +1,7 @@
 // The plan of a board's rows.
 ghost use mathlib.Core.Bool.{true};
 ghost use mathlib.Core.Path.{_≡_};
-ghost use Prim.Native.Nat.{ℕ, _≤_, _<_};
+ghost use Prim.Native.Nat.{ℕ, _+_, _^_, _≤_, _<_};
 ghost use lib.Dec.{T};
 ghost use lib.ListN.{length, getD};
 ghost use Rattle.std.specs.declared.option.Option.the-variants.{None};
@@ -66,6 +66,14 @@ fn price_all<K: Kind>(offers: &[Option<Offer>; 8]) -> ByLevel<Option<PricedOffer
     priced
 }
 
+// How many states the fronts have up to one that starts behind so many and has so many itself.
+fn states_with(start: usize, count: usize) -> usize
+    requires { ⌜ start + count < 2 ^ 64 ⌝ }
+    ensures { λ r. ⌜ r ≡ start + count ⌝ }
+{
+    start + count
+}
+
 // All fronts, laid into the list one behind the other.
 fn make_fronts<K: Kind>(
     rows: &[Row],
@@ -96,7 +104,7 @@ fn make_fronts<K: Kind>(
     Ok(Made {
         start,
         base,
-        states: start + count,
+        states: states_with(start, count),
     })
 }
 

@@ -33,8 +33,8 @@ loop-i-again g c =
     let r = c .index-rows-i .result in
     let is = c .index-rows-i .is in
     let before : c .loop-i .left ≡ left-by (rows-of k (drop (i + 1) rs)) = subst (λ n. c .loop-i .left ≡ left-by (rows-of k (drop n rs))) on (c .loop-i .inv .1) in
-    let b = c .lesser-of-bound .result in
-    let here : b ≡ bound-at k rs i r = c .lesser-of-bound .ensures ∙ ap (λ l. lesser l (r .limit)) before ∙ sym (bound-left (row-of k r) (rows-of k (drop (i + 1) rs))) in
+    let b = c .admitted-bound .result in
+    let here : b ≡ bound-at k rs i r = c .admitted-bound .ensures ∙ ap (λ l. lesser l (r .limit)) before ∙ sym (bound-left (row-of k r) (rows-of k (drop (i + 1) rs))) in
     let within : i < length (c .loop-i .bounds) = omega (arith, c .loop-i .inv .0) in
     let less : c .saturating-sub .result ≡ bound-at k rs i r - smallest (offers-from k (r .offers) 0 8) = let value = c .smallest .ensures .value in let sub = c .saturating-sub .ensures in cc in (
       length-set (c .loop-i .bounds) i b ∙ c .loop-i .inv .0,

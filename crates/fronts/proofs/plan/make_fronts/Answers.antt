@@ -73,7 +73,7 @@ returns g c =
     record {
       room = end .2;
       list = end .0;
-      states = end .1;
-      within = omega (arith, inv .room, inv .same);
+      states = c .states-with .ensures ∙ end .1;
+      within = omega (arith, c .states-with .ensures, inv .room, inv .same);
       last = record { count = c .loop-i .count; ends = inv .room; pairs = inv .pairs; position = inv .placed };
     }
