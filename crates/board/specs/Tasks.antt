@@ -8,12 +8,16 @@
 --   time-left clock due     the period, or the time to the deadline
 --   quick-enough p clock t  at the top level the task is done in the time left
 --   judged p port clock t   the task, or the first fault of its figures, with the port
+--   fewer-cycles t cycles   the task with so many cycles less
+--   served cycles t         the task with so many cycles less, if that is at least one cycle and leaves one
 use mathlib.Core.Bool.{Bool, true, cond, _&&_}
 use mathlib.Core.List.{List, [], _∷_}
 use Prim.Native.Nat.{ℕ, _+_, _-_, _/_}
 use lib.Dec.{leb, ltb, eqb}
 use lib.ListN.{length}
 use Rattle.std.specs.shelf.Lawful.{all-pass}
+use Rattle.std.specs.declared.option.Option.{Option}
+use Rattle.std.specs.declared.option.Option.the-variants.{None, Some}
 use Rattle.std.specs.declared.result.Result.{Result}
 use Rattle.std.specs.declared.result.Result.the-variants.{Ok, Err}
 use Rattle.board.specs.declared.faults.Fault.{Fault}
@@ -63,3 +67,9 @@ quick-enough p clock t = leb (busy-time (t .cycles) (top-speed (p .levels))) (ti
 abbrev pub judged : Processor-figures → ℕ → ℕ → Task-figures → Result Task-figures Fault
 judged p port clock t =
     cond (figures-fit p t) (cond (due-fits clock (t .due)) (cond (quick-enough p clock t) (Ok t) (Err (TooSlow port))) (Err (BadTime port))) (Err (BadFigure port))
+
+abbrev pub fewer-cycles : Task-figures → ℕ → Task-figures
+fewer-cycles t cycles = record { cycles = t .cycles - cycles; access = t .access; shares = t .shares; due = t .due }
+
+abbrev pub served : ℕ → Task-figures → Option Task-figures
+served cycles t = cond (leb 1 cycles && ltb cycles (t .cycles)) (Some (fewer-cycles t cycles)) None

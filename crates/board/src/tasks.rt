@@ -8,6 +8,7 @@ use crate::dues::Due;
 
 pub mod makes;
 pub mod reads;
+pub mod serves;
 
 // What a caller says of a task, in figures of any size.
 #[derive(Clone, Copy)]

@@ -1,0 +1,12 @@
+mod Joints
+mod Placing
+mod Admitting
+mod Offering
+mod Adding
+mod Listing
+mod ByPort
+mod Pricing
+mod Serves
+mod Turning
+mod ByDeadline
+mod Asking

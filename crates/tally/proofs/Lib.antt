@@ -1,0 +1,12 @@
+pub mod Orders
+pub mod Periods
+pub mod Periodic
+pub mod Deadlines
+pub mod Sporadic
+pub mod Standings
+pub mod Measures
+pub mod Rows
+pub mod Refusing
+pub mod Serving
+pub mod Promising
+pub mod Living
