@@ -2,8 +2,7 @@
 use crate::rows::Plain;
 use crate::rows::Setting;
 use crate::rows::rows_of;
-use crate::texts::levels_text;
-use crate::texts::numbers_text;
+use crate::texts::answer_text;
 use board::dues::Due;
 use board::faults::Fault;
 use board::faults::FaultDebug;
@@ -31,19 +30,14 @@ fn print_plan<K: Kind>(
     list: &mut [State<K>],
 ) -> Result<(), AnyError> {
     let mut levels = [0u8; 48];
-    match plan(rows, list, &mut levels) {
-        Ok(f) => {
-            let cost = numbers_text(rt.alloc(), &f.cost)?;
-            let told = levels_text(rt.alloc(), &levels)?;
-            println!(rt, "{number}: {cost}; {}; {}; {told}", f.load, f.states)?;
-        }
-        Err(fault) => println!(rt, "{number}: {}, port {}", fault.number(), fault.place())?,
-    }
+    let answer = plan(rows, list, &mut levels);
+    let text = answer_text(rt.alloc(), &answer, &levels)?;
+    println!(rt, "{number}: {text}")?;
     Ok(())
 }
 
 // An empty place of the list.
-fn blank<K: Kind>() -> State<K> {
+pub fn blank<K: Kind>() -> State<K> {
     State {
         load: 0,
         cost: K::zero(),

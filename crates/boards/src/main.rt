@@ -1,10 +1,12 @@
 // Measures the example board, and prints a line for each port and level, with its price under each kind.
-// Then plans the fourteen boards with known plans.
+// Then plans the fourteen boards with known plans, and lives two lives of each book.
 mod cases;
+mod lives;
 mod rows;
 mod texts;
 
 use crate::cases::print_cases;
+use crate::lives::print_lives;
 use crate::rows::Plain;
 use crate::rows::plain_task;
 use crate::rows::with_due;
@@ -98,7 +100,8 @@ fn run(rt: &LibcRuntime) -> Result<(), AnyError> {
         2,
         &plain_task(&processor, 2, second)?,
     )?;
-    print_cases(rt, &processor)
+    print_cases(rt, &processor)?;
+    print_lives(rt, &processor)
 }
 
 fn main(rt: LibcRuntime) -> Result<(), AnyError> {

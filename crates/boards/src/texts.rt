@@ -1,5 +1,7 @@
-// Costs and levels as text.
+// Answers as text.
+use board::faults::Fault;
 use cost::kinds::Kind;
+use plans::figures::Figures;
 use std::alloc::Global;
 use std::error::AnyError;
 
@@ -37,4 +39,20 @@ pub fn levels_text(heap: Global, levels: &[u8]) -> Result<String, AnyError> {
         text.push_str("none")?;
     }
     Ok(text)
+}
+
+// Cost, load, states and levels of a plan, or the refusal and its port.
+pub fn answer_text<K: Kind>(
+    heap: Global,
+    answer: &Result<Figures<K>, Fault>,
+    levels: &[u8],
+) -> Result<String, AnyError> {
+    match answer {
+        Ok(f) => {
+            let cost = numbers_text(heap, &f.cost)?;
+            let told = levels_text(heap, levels)?;
+            Ok(format!(heap, "{cost}; {}; {}; {told}", f.load, f.states)?)
+        }
+        Err(fault) => Ok(format!(heap, "{}, port {}", fault.number(), fault.place())?),
+    }
 }
