@@ -1,4 +1,6 @@
 // The figures of a board: processor, tasks, periods and measures, and the faults that a book answers.
+#![tactic(auto)]
+
 pub mod dues;
 pub mod faults;
 pub mod levels;

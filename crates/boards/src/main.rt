@@ -1,5 +1,7 @@
 // Measures the example board, and prints a line for each port and level, with its price under each kind.
 // Then plans the fourteen boards with known plans, and lives two lives of each book.
+#![tactic(auto)]
+
 mod cases;
 mod lives;
 mod rows;

@@ -1,5 +1,7 @@
 // Measures the example board, plans the fourteen boards with known plans through their books, tries other
 // capacities, and lives two lives of each book.
+#![tactic(auto)]
+
 mod cases;
 mod lives;
 mod measures;

@@ -1,4 +1,6 @@
 // Kinds of cost: what the planner makes least.
+#![tactic(auto)]
+
 pub mod energies;
 pub mod kinds;
 pub mod pairs;

@@ -1,4 +1,6 @@
 // Plans several hundred boards with the library, and compares each plan with a count of all choices.
+#![tactic(auto)]
+
 mod answers;
 mod asking;
 mod beginnings;

@@ -1,4 +1,6 @@
 // The planner: the fronts of a board's rows, made one from the other inside a lent list.
+#![tactic(auto)]
+
 mod back;
 mod by_level;
 mod limits;

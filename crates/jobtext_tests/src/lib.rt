@@ -1,4 +1,6 @@
 // Tests of job text: every fault of it at both edges, and what is written where.
+#![tactic(auto)]
+
 #[cfg(test)]
 mod faults;
 #[cfg(test)]

@@ -1,4 +1,6 @@
 // A kind of cost from outside the crate of kinds, and the kinds at work.
+#![tactic(auto)]
+
 ghost use Rattle.std.specs.Prelude.{[], ◌∷◌};
 ghost use Rattle.kindtest.specs.Heat.{hot};
 ghost use Rattle.kindtest.specs.HeatLemmas.{hot_laws};

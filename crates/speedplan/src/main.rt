@@ -1,4 +1,6 @@
 // Plans boards: reads a job text, from the file that is named or on standard input, and prints every answer.
+#![tactic(auto)]
+
 ghost use Rattle.std.specs.Prelude.{◌≡◌, ◌<◌, true, IfOk};
 ghost use Rattle.jobtext.specs.Jobs.{most_left};
 ghost use Rattle.jobtext.specs.Views.{stage_view};

@@ -4,21 +4,21 @@ use Rattle.board.specs.Periods.{lcm, LeastMultiple}
 use Rattle.board.proofs.Multiples.{by_divisor, lcm_is_least}
 use Rattle.board.proofs.periods.common_multiple.Goals as goal
 
-pub nonzero-div-result : goal.nonzero-div-result
-nonzero-div-result c = pos_of_dvd_of_pos c.common-divisor.ensures.first c.requires.0
+pub nonzero_div-result : goal.nonzero_div-result
+nonzero_div-result c = pos_of_dvd_of_pos c.common_divisor.ensures.first c.requires.0
 
-pub overflow-mul-result : goal.overflow-mul-result
-overflow-mul-result c =
+pub overflow_mul-result : goal.overflow_mul-result
+overflow_mul-result c =
     let a = c.args.a in
-    let g = c.common-divisor.result in
+    let g = c.common_divisor.result in
     let q : a / g ≤ 60000000 = omega (arith, div-le_self a g) in
     let b : c.args.b ≤ 10000000 = omega arith in
     omega (arith, mul-le-mul q b)
 
 pub returns : goal.returns
 returns c =
-    let g = c.common-divisor.ensures in
+    let g = c.common_divisor.ensures in
     let low : 1 ≤ c.args.a = c.requires.0 in
     let other : 1 ≤ c.args.b = omega arith in
-    let is = by_divisor c.args.a c.args.b low other c.common-divisor.result g.first g.second g.greatest in
+    let is = by_divisor c.args.a c.args.b low other c.common_divisor.result g.first g.second g.greatest in
     record { value = is; least = subst (λ m. LeastMultiple c.args.a c.args.b m) (sym is) (lcm_is_least c.args.a c.args.b low other) }

@@ -12,17 +12,17 @@ use Rattle.book.proofs.periods.hyperperiod_of.Goals as goal
 pub loop-i-init : goal.loop-i-init
 loop-i-init c =
     let xs = c.args.tasks.now in
-    c.of-none-joint.ensures ∙ joint_start (figures_of xs) (length xs) (omega (arith, length-map xs (option_map task_figures)))
+    c.of_none-joint.ensures ∙ joint_start (figures_of xs) (length xs) (omega (arith, length-map xs (option_map task_figures)))
 
 pub loop-i-preserved : goal.loop-i-preserved
 loop-i-preserved c =
-    joint_more c.args.tasks.now c.loop-i.i c.index-tasks-i.result (omega arith) (omega arith) c.index-tasks-i.is c.loop-i.joint.micros c.in-ok-joint.joint.micros c.loop-i.invariant c.in-ok-joint.ensures
+    joint_more c.args.tasks.now c.loop-i.i c.index-tasks-i.result (omega arith) (omega arith) c.index-tasks-i.is c.loop-i.joint.micros c.in_ok-joint.joint.micros c.loop-i.invariant c.in_ok-joint.ensures
 
-pub returns-in-err-joint : goal.returns-in-err-joint
-returns-in-err-joint c =
+pub returns-in_err-joint : goal.returns-in_err-joint
+returns-in_err-joint c =
     let xs = c.args.tasks.now in
-    let long = joint_too_long xs c.loop-i.i c.index-tasks-i.result (omega arith) (omega arith) c.index-tasks-i.is c.loop-i.joint.micros c.loop-i.invariant c.requires c.in-err-joint.ensures in
-    ap (option_map (λ (h : Hyperperiod). h.micros)) c.from-residual.ensures ∙ too_long (hyperperiod (dues (figures_of xs))) long ∙ ap if_short (joint_all (figures_of xs))
+    let long = joint_too_long xs c.loop-i.i c.index-tasks-i.result (omega arith) (omega arith) c.index-tasks-i.is c.loop-i.joint.micros c.loop-i.invariant c.requires c.in_err-joint.ensures in
+    ap (option_map (λ (h : Hyperperiod). h.micros)) c.from_residual.ensures ∙ too_long (hyperperiod (dues (figures_of xs))) long ∙ ap if_short (joint_all (figures_of xs))
 
 pub returns : goal.returns
 returns c =

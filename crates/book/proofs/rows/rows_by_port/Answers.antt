@@ -9,7 +9,7 @@ use Rattle.book.specs.Tasks.{figures_of}
 use Rattle.book.specs.Rows.{plain_row, standing_row}
 use Rattle.book.proofs.ByPort.{past_none, past_some}
 use Rattle.book.proofs.rows.rows_by_port.Goals as goal
-use Rattle.book.proofs.rows.rows_by_port.Goals.{in-Some, in-default}
+use Rattle.book.proofs.rows.rows_by_port.Goals.{in-Some, in_default}
 
 pub loop-place-preserved : goal.loop-place-preserved
 loop-place-preserved c =
@@ -19,7 +19,7 @@ loop-place-preserved c =
     let lt : i < length tasks = omega (arith, c.requires.ports) in
     elim c.match-entry.branch [
       | in-Some w ↦ ap (λ (r : Rows). map plain_row (listed_rows r)) w.rows-is ∙ past_some c.args.processor.now tasks c.args.limit i o lt c.index-tasks-place.is (listed_rows c.loop-place.rows) c.loop-place.invariant c.requires.ports c.requires.fit w.in-Some.task (c.index-tasks-place.is ∙ w.in-Some.is) c.args.hyperperiod.now.micros c.requires.joint w.offers-offers.result w.offers-offers.ensures w.push.result (listed_rows w.push.new.self) w.push.ensures.answer w.push.ensures.rows
-      | in-default w ↦ ap (λ (r : Rows). map plain_row (listed_rows r)) w.rows-is ∙ past_none c.args.processor.now tasks c.args.limit i o lt c.index-tasks-place.is (listed_rows c.loop-place.rows) c.loop-place.invariant (c.index-tasks-place.is ∙ w.in-default.is)
+      | in_default w ↦ ap (λ (r : Rows). map plain_row (listed_rows r)) w.rows-is ∙ past_none c.args.processor.now tasks c.args.limit i o lt c.index-tasks-place.is (listed_rows c.loop-place.rows) c.loop-place.invariant (c.index-tasks-place.is ∙ w.in_default.is)
     ]
 
 pub returns : goal.returns

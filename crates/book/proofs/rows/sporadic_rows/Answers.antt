@@ -5,18 +5,18 @@ use Rattle.book.specs.declared.turns.Turn.{Turn}
 use Rattle.book.specs.Rows.{plain_row}
 use Rattle.book.proofs.ByDeadline.{rows_of_all, past_none, past_some}
 use Rattle.book.proofs.rows.sporadic_rows.Goals as goal
-use Rattle.book.proofs.rows.sporadic_rows.Goals.{in-Some, in-default}
+use Rattle.book.proofs.rows.sporadic_rows.Goals.{in-Some, in_default}
 
 pub loop-i-preserved : goal.loop-i-preserved
 loop-i-preserved c =
-    let order = c.turns-of-order in
+    let order = c.turns_of-order in
     let none : Turn = record { deadline = 0; port = 0 } in
-    elim c.match-task-at.branch [
-      | in-Some w ↦ ap (λ (r : Rows). map plain_row (listed_rows r)) w.rows-is ∙ past_some c.args.processor.now c.args.tasks.now c.args.clock order.result.turns order.result.count order.ensures.places order.ensures.few order.ensures.turns c.requires.ports c.requires.fit c.loop-i.i c.loop-i-test.true none c.task-at.result c.task-at.ensures w.in-Some.task w.in-Some.is (listed_rows c.loop-i.rows) c.loop-i.invariant w.sporadic-limit-limit.result w.sporadic-limit-limit.ensures c.of-none-once.result.micros c.of-none-once.ensures w.offers-offers.result w.offers-offers.ensures w.push.result (listed_rows w.push.new.self) w.push.ensures.answer w.push.ensures.rows
-      | in-default w ↦ absurd (past_none c.args.processor.now c.args.tasks.now c.args.clock order.result.turns order.result.count order.ensures.places order.ensures.few order.ensures.turns c.requires.ports c.requires.fit c.loop-i.i c.loop-i-test.true none c.task-at.result c.task-at.ensures w.in-default.is)
+    elim c.match-task_at.branch [
+      | in-Some w ↦ ap (λ (r : Rows). map plain_row (listed_rows r)) w.rows-is ∙ past_some c.args.processor.now c.args.tasks.now c.args.clock order.result.turns order.result.count order.ensures.places order.ensures.few order.ensures.turns c.requires.ports c.requires.fit c.loop-i.i c.loop-i-test.true none c.task_at.result c.task_at.ensures w.in-Some.task w.in-Some.is (listed_rows c.loop-i.rows) c.loop-i.invariant w.sporadic_limit-limit.result w.sporadic_limit-limit.ensures c.of_none-once.result.micros c.of_none-once.ensures w.offers-offers.result w.offers-offers.ensures w.push.result (listed_rows w.push.new.self) w.push.ensures.answer w.push.ensures.rows
+      | in_default w ↦ absurd (past_none c.args.processor.now c.args.tasks.now c.args.clock order.result.turns order.result.count order.ensures.places order.ensures.few order.ensures.turns c.requires.ports c.requires.fit c.loop-i.i c.loop-i-test.true none c.task_at.result c.task_at.ensures w.in_default.is)
     ]
 
 pub returns : goal.returns
 returns c =
-    let order = c.turns-of-order in
+    let order = c.turns_of-order in
     c.loop-i.invariant ∙ rows_of_all c.args.processor.now c.args.tasks.now c.args.clock order.result.turns order.result.count order.ensures.places order.ensures.few order.ensures.turns c.loop-i.i (omega arith)

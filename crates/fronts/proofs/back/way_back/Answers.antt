@@ -35,11 +35,11 @@ loop-i-init g c =
     let all = subst (λ (xs : List Row). Way k rows (reverse (rows_of k xs)) [] c.args.last (replicate 48 None)) (sym (take_all (length rs) rs (omega arith))) at_last in
     subst (λ (later : List (Choices.Row g.row.K.Denot)). Way k rows (reverse (rows_of k (take (length rs) rs))) later c.args.last (replicate 48 None)) (sym (rows_end k rs (length rs) (omega arith))) all
 
-pub overflow-sub-at : goal.overflow-sub-at
-overflow-sub-at g c = (port_within c.args.rows.now c.requires.fit (c.loop-i.i - 1) (omega arith) c.index-rows-i.result c.index-rows-i.is).0
+pub overflow_sub-at : goal.overflow_sub-at
+overflow_sub-at g c = (port_within c.args.rows.now c.requires.fit (c.loop-i.i - 1) (omega arith) c.index-rows-i.result c.index-rows-i.is).0
 
-pub overflow-sub-state : goal.overflow-sub-state
-overflow-sub-state g c =
+pub overflow_sub-state : goal.overflow_sub-state
+overflow_sub-state g c =
     let k = g.K.Kind.meaning in
     let rs = c.args.rows.now in
     let w = way_row k rs c.loop-i.i c.loop-i-test.true c.loop-i.auto.i c.index-rows-i.result c.index-rows-i.is c.loop-i.invariant in
@@ -52,20 +52,20 @@ bounds-list-position g c =
     let w = way_row k rs c.loop-i.i c.loop-i-test.true c.loop-i.auto.i c.index-rows-i.result c.index-rows-i.is c.loop-i.invariant in
     position_listed k g.met.K.Kind.laws (rows_of k rs) c.requires.kept c.args.list.now c.requires.held w
 
-pub offset-bounds-list-position : goal.offset-bounds-list-position
-offset-bounds-list-position g c = let h = bounds-list-position g c in omega (arith, h)
+pub offset_bounds-list-position : goal.offset_bounds-list-position
+offset_bounds-list-position g c = let h = bounds-list-position g c in omega (arith, h)
 
 pub bounds-picks-at : goal.bounds-picks-at
 bounds-picks-at g c = omega (arith, (port_within c.args.rows.now c.requires.fit (c.loop-i.i - 1) (omega arith) c.index-rows-i.result c.index-rows-i.is).1)
 
-pub offset-bounds-picks-at : goal.offset-bounds-picks-at
-offset-bounds-picks-at g c = let h = bounds-picks-at g c in search rules
+pub offset_bounds-picks-at : goal.offset_bounds-picks-at
+offset_bounds-picks-at g c = let h = bounds-picks-at g c in search rules
 
 pub bounds-picks-at-in-loop-i : goal.bounds-picks-at-in-loop-i
 bounds-picks-at-in-loop-i g c = omega (arith, (port_within c.args.rows.now c.requires.fit (c.loop-i.i - 1) (omega arith) c.index-rows-i.result c.index-rows-i.is).1)
 
-pub offset-bounds-picks-at-in-loop-i : goal.offset-bounds-picks-at-in-loop-i
-offset-bounds-picks-at-in-loop-i g c = let h = bounds-picks-at-in-loop-i g c in search rules
+pub offset_bounds-picks-at-in-loop-i : goal.offset_bounds-picks-at-in-loop-i
+offset_bounds-picks-at-in-loop-i g c = let h = bounds-picks-at-in-loop-i g c in search rules
 
 pub loop-i-preserved : goal.loop-i-preserved
 loop-i-preserved g c =

@@ -29,7 +29,7 @@ loop-i-preserved g c =
     let b = c.admitted-bound.result in
     let here : b ≡ bound_at k rs i r = c.admitted-bound.ensures ∙ ap (λ l. lesser l r.limit) before ∙ sym (bound_left (row_of k r) (rows_of k (drop (i + 1) rs))) in
     let within : i < length c.loop-i.bounds = omega (arith, c.loop-i.invariant.0) in
-    let less : c.saturating-sub.result ≡ bound_at k rs i r - smallest (offers_from k r.offers 0 8) = let value = c.smallest.ensures.value in let sub = c.saturating-sub.ensures in cc in (
+    let less : c.saturating_sub.result ≡ bound_at k rs i r - smallest (offers_from k r.offers 0 8) = let value = c.smallest.ensures.value in let sub = c.saturating_sub.ensures in cc in (
       length-set c.loop-i.bounds i b ∙ c.loop-i.invariant.0,
       ap Some less ∙ sym (ap left_by (rows_from k rs i (omega arith) r is)),
       λ j row low high at. elim (cases_eq j i) [

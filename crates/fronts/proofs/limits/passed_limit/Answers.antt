@@ -4,8 +4,8 @@ use Rattle.fronts.specs.Rows.{rows_of}
 use Rattle.fronts.proofs.Bounding.{row_passes, row_keeps, rows_end}
 use Rattle.fronts.proofs.limits.passed_limit.Goals as goal
 
-pub overflow-add-sum : goal.overflow-add-sum
-overflow-add-sum g c = omega (arith, c.loop-i.invariant.1, c.smallest-sum.ensures.bound)
+pub overflow_add-sum : goal.overflow_add-sum
+overflow_add-sum g c = omega (arith, c.loop-i.invariant.1, c.smallest-sum.ensures.bound)
 
 pub returns-then-sum-row : goal.returns-then-sum-row
 returns-then-sum-row g c =

@@ -17,7 +17,7 @@ loop-level-preserved g c =
     let on : c.loop-level.level ≡ i + 1 = omega arith in
     let here : i < length os = omega arith in
     let before : c.loop-level.least ≡ least (offers_from k os (i + 1) (8 - (i + 1))) = subst (λ n. c.loop-level.least ≡ least (offers_from k os n (8 - n))) on c.loop-level.invariant.0 in
-    (before ∙ sym (least_pass k os i (omega arith) (get_or_default os i None c.index-offers-level.result here ∙ c.in-default.is)), c.loop-level.invariant.1)
+    (before ∙ sym (least_pass k os i (omega arith) (get_or_default os i None c.index-offers-level.result here ∙ c.in_default.is)), c.loop-level.invariant.1)
 
 pub loop-level-preserved-in-Some : goal.loop-level-preserved-in-Some
 loop-level-preserved-in-Some g c =
@@ -28,8 +28,8 @@ loop-level-preserved-in-Some g c =
     let here : i < length os = omega arith in
     let o = c.in-Some.offered in
     let before : c.loop-level.least ≡ least (offers_from k os (i + 1) (8 - (i + 1))) = subst (λ n. c.loop-level.least ≡ least (offers_from k os n (8 - n))) on c.loop-level.invariant.0 in (
-      ap Some (c.lesser-of.ensures ∙ ap (λ r. lesser r o.measure.load) before) ∙ sym (least_more k os i (omega arith) o (get_or_default os i None c.index-offers-level.result here ∙ c.in-Some.is)),
-      subst (λ n. n ≤ 60000000) (sym c.lesser-of.ensures) (lesser_within c.loop-level.least o.measure.load c.loop-level.invariant.1 (load_bound o.measure o.offered)),
+      ap Some (c.lesser_of.ensures ∙ ap (λ r. lesser r o.measure.load) before) ∙ sym (least_more k os i (omega arith) o (get_or_default os i None c.index-offers-level.result here ∙ c.in-Some.is)),
+      subst (λ n. n ≤ 60000000) (sym c.lesser_of.ensures) (lesser_within c.loop-level.least o.measure.load c.loop-level.invariant.1 (load_bound o.measure o.offered)),
     )
 
 pub returns : goal.returns
@@ -39,6 +39,6 @@ returns g c =
     let end : c.loop-level.level ≡ 0 = omega arith in
     let all : c.loop-level.least ≡ least (offers_from k os 0 8) = subst (λ n. c.loop-level.least ≡ least (offers_from k os n (8 - n))) end c.loop-level.invariant.0 in
     record {
-      value = c.unwrap-or.ensures ∙ ap (λ r. unwrap_or r 0) all ∙ least_value (offers_from k os 0 8);
-      bound = subst (λ n. n ≤ 60000000) (sym c.unwrap-or.ensures) (value_within c.loop-level.least c.loop-level.invariant.1);
+      value = c.unwrap_or.ensures ∙ ap (λ r. unwrap_or r 0) all ∙ least_value (offers_from k os 0 8);
+      bound = subst (λ n. n ≤ 60000000) (sym c.unwrap_or.ensures) (value_within c.loop-level.least c.loop-level.invariant.1);
     }

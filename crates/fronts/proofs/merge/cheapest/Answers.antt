@@ -4,7 +4,7 @@ use Rattle.fronts.specs.ByLevel.{by_level}
 use Rattle.fronts.specs.Merging.{state_of, heads_of, cheapest}
 use Rattle.fronts.proofs.Heads.{cheapest_some, cheapest_none}
 use Rattle.fronts.proofs.merge.cheapest.Goals as goal
-use Rattle.fronts.proofs.merge.cheapest.Goals.{in-Some, in-default}
+use Rattle.fronts.proofs.merge.cheapest.Goals.{in-Some, in_default}
 
 pub candidate-offered-requires : goal.candidate-offered-requires
 candidate-offered-requires g c = record {
@@ -25,7 +25,7 @@ loop-level-preserved g c =
       | in-Some w ↦
           w.found-is ∙ w.cheaper-found.ensures
           ∙ cheapest_some k heads n c.loop-level.found c.loop-level.invariant w.candidate-offered.result (w.candidate-offered.ensures ∙ ap at (sym w.in-Some.is ∙ read))
-      | in-default w ↦ w.found-is ∙ cheapest_none k heads n c.loop-level.found c.loop-level.invariant (ap at (sym w.in-default.is ∙ read))
+      | in_default w ↦ w.found-is ∙ cheapest_none k heads n c.loop-level.found c.loop-level.invariant (ap at (sym w.in_default.is ∙ read))
     ]
 
 pub returns : goal.returns

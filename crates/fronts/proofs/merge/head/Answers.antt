@@ -13,7 +13,7 @@ use Rattle.fronts.proofs.merge.head.Goals.{In-Some-Some}
 -- the pair and the offer that were read
 module _ (g : given.Over) (c : goal.In-Some-Some g) where
   stood : slice_get (before g.K.Kind.meaning c.args.base (take c.args.count c.args.part.now)) c.args.index ≡ Some (record { load = c.in-Some-Some.sum.0; cost = c.in-Some-Some.sum.1 })
-  stood = sum_some (slice_get (before g.K.Kind.meaning c.args.base (take c.args.count c.args.part.now)) c.args.index) c.in-Some-Some.sum (sym c.in-Some-Some.is-1 ∙ c.pair-before-pair.ensures)
+  stood = sum_some (slice_get (before g.K.Kind.meaning c.args.base (take c.args.count c.args.part.now)) c.args.index) c.in-Some-Some.sum (sym c.in-Some-Some.is-1 ∙ c.pair_before-pair.ensures)
 
   offered : get_or (by_level c.args.offers.now) c.args.level None ≡ Some c.in-Some-Some.offer
   offered = get_or_default (by_level c.args.offers.now) c.args.level None c.get-option.result c.requires.low ∙ sym c.get-option.ensures ∙ c.in-Some-Some.is-0

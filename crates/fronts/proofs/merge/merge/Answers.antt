@@ -11,7 +11,7 @@ use Rattle.fronts.proofs.merge.merge.Goals as goal
 pub loop-next-init : goal.loop-next-init
 loop-next-init g c =
     begins g.K.Kind.meaning g.met.K.Kind.laws c.args.base c.args.bound c.args.count c.args.part.now (by_level c.args.offers.now) c.requires.within
-    (by_level c.first-heads-heads.result) refl c.first-heads-heads.ensures
+    (by_level c.first_heads-heads.result) refl c.first_heads-heads.ensures
 
 pub cheapest-requires : goal.cheapest-requires
 cheapest-requires g c = record {
@@ -28,8 +28,8 @@ bounds-cursors-level g c =
     low_next g.K.Kind.meaning g.met.K.Kind.laws c.args.base c.args.bound c.args.count c.args.part.now (by_level c.args.offers.now) c.requires.within
     c.loop-next.part c.loop-next.end (by_level c.loop-next.heads) c.loop-next.cursors c.loop-next.invariant c.in-Some.next c.in-Some.ensures
 
-pub overflow-add-index : goal.overflow-add-index
-overflow-add-index g c = omega (
+pub overflow_add-index : goal.overflow_add-index
+overflow_add-index g c = omega (
   arith,
   short_next g.K.Kind.meaning g.met.K.Kind.laws c.args.base c.args.bound c.args.count c.args.part.now (by_level c.args.offers.now) c.requires.within
       c.loop-next.part c.loop-next.end (by_level c.loop-next.heads) c.loop-next.cursors c.loop-next.invariant c.in-Some.next c.in-Some.ensures,
@@ -58,14 +58,14 @@ put-requires g c =
     low_next g.K.Kind.meaning g.met.K.Kind.laws c.args.base c.args.bound c.args.count c.args.part.now (by_level c.args.offers.now) c.requires.within
     c.loop-next.part c.loop-next.end (by_level c.loop-next.heads) c.loop-next.cursors c.loop-next.invariant c.in-Some.next c.in-Some.ensures
 
-pub returns-in-err-end : goal.returns-in-err-end
-returns-in-err-end g c row done later turn =
+pub returns-in_err-end : goal.returns-in_err-end
+returns-in_err-end g c row done later turn =
     let inv = c.loop-next.invariant in
-    let p = err_from_is_err_and c.from-residual.result c.from-residual.ensures.1 in
+    let p = err_from_is_err_and c.from_residual.result c.from_residual.ensures.1 in
     rw p.1 (
     overfull g.K.Kind.meaning g.met.K.Kind.laws c.args.base c.args.bound c.args.count c.args.part.now (by_level c.args.offers.now) c.requires.within
-    c.loop-next.part c.loop-next.end (by_level c.loop-next.heads) c.loop-next.cursors inv c.in-Some.next c.in-Some.ensures g.row.K.coded c.keep-candidate.new.part p.0
-    (c.in-err-end.ensures inv.kept c.args.part.now inv.is inv.ends inv.room) row done later turn
+    c.loop-next.part c.loop-next.end (by_level c.loop-next.heads) c.loop-next.cursors inv c.in-Some.next c.in-Some.ensures g.row.K.coded c.keep_candidate.new.part p.0
+    (c.in_err-end.ensures inv.kept c.args.part.now inv.is inv.ends inv.room) row done later turn
     )
 
 pub loop-next-smaller : goal.loop-next-smaller
@@ -77,14 +77,14 @@ loop-next-smaller g c =
 pub loop-next-preserved : goal.loop-next-preserved
 loop-next-preserved g c =
     let inv = c.loop-next.invariant in
-    subst (λ hs. Going g.K.Kind.meaning c.args.base c.args.bound c.args.count c.args.part.now (by_level c.args.offers.now) c.keep-candidate.new.part c.in-ok-end.end hs (moved c.loop-next.cursors c.in-Some.next.level))
+    subst (λ hs. Going g.K.Kind.meaning c.args.base c.args.bound c.args.count c.args.part.now (by_level c.args.offers.now) c.keep_candidate.new.part c.in_ok-end.end hs (moved c.loop-next.cursors c.in-Some.next.level))
     (sym c.put.ensures) (
     goes_on g.K.Kind.meaning g.met.K.Kind.laws c.args.base c.args.bound c.args.count c.args.part.now (by_level c.args.offers.now) c.requires.within
     c.loop-next.part c.loop-next.end (by_level c.loop-next.heads) c.loop-next.cursors inv c.in-Some.next c.in-Some.ensures c.head.result c.head.ensures
-    c.keep-candidate.new.part c.in-ok-end.end (c.in-ok-end.ensures inv.kept c.args.part.now inv.is inv.ends inv.room)
+    c.keep_candidate.new.part c.in_ok-end.end (c.in_ok-end.ensures inv.kept c.args.part.now inv.is inv.ends inv.room)
     )
 
 pub returns : goal.returns
 returns g c =
     complete g.K.Kind.meaning g.met.K.Kind.laws c.args.base c.args.bound c.args.count c.args.part.now (by_level c.args.offers.now) c.requires.within
-    c.loop-next.part c.loop-next.end (by_level c.loop-next.heads) c.loop-next.cursors c.loop-next.invariant c.in-default.ensures g.row.K.coded
+    c.loop-next.part c.loop-next.end (by_level c.loop-next.heads) c.loop-next.cursors c.loop-next.invariant c.in_default.ensures g.row.K.coded

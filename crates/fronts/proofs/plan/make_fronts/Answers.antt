@@ -27,7 +27,7 @@ advance-requires g c =
     record {
       within = inv.room;
       positions = c.loop-i.invariant.1;
-      row = ∣ (row_of k r, reverse (rows_of k (take i rs)), rows_of k (drop (i + 1) rs), next_row k rs c.requires.few c.requires.loads i here r c.index-rows-i.is _ (by_level c.price-all-offers.result) (get_or c.args.bounds.now i 0) pairs c.price-all-offers.ensures (c.requires.bounds i r here c.index-rows-i.is)) ∣₁;
+      row = ∣ (row_of k r, reverse (rows_of k (take i rs)), rows_of k (drop (i + 1) rs), next_row k rs c.requires.few c.requires.loads i here r c.index-rows-i.is _ (by_level c.price_all-offers.result) (get_or c.args.bounds.now i 0) pairs c.price_all-offers.ensures (c.requires.bounds i r here c.index-rows-i.is)) ∣₁;
     }
 
 pub returns-in-Err : goal.returns-in-Err
@@ -38,7 +38,7 @@ returns-in-Err g c =
     let r = c.index-rows-i.result in
     let here : i < length rs = omega arith in
     let inv = subst (λ (l : List (Choices.Row g.row.K.Denot)). Progress k c.args.list.now (rows_of k rs) c.loop-i.list (reverse (rows_of k (take i rs))) l c.loop-i.start c.loop-i.count c.loop-i.base) (rows_from k rs i here r c.index-rows-i.is) c.loop-i.invariant.0 in
-    let next = next_row k rs c.requires.few c.requires.loads i here r c.index-rows-i.is _ (by_level c.price-all-offers.result) (get_or c.args.bounds.now i 0) inv.pairs c.price-all-offers.ensures (c.requires.bounds i r here c.index-rows-i.is) in
+    let next = next_row k rs c.requires.few c.requires.loads i here r c.index-rows-i.is _ (by_level c.price_all-offers.result) (get_or c.args.bounds.now i 0) inv.pairs c.price_all-offers.ensures (c.requires.bounds i r here c.index-rows-i.is) in
     stops k c.args.list.now (rows_of k rs) c.loop-i.list (reverse (rows_of k (take i rs))) (rows_of k (drop (i + 1) rs)) (row_of k r) c.loop-i.start c.loop-i.count c.loop-i.base inv
     c.advance.new.list c.in-Err.field-0 (c.in-Err.ensures (row_of k r) (reverse (rows_of k (take i rs))) (rows_of k (drop (i + 1) rs)) next)
 
@@ -50,7 +50,7 @@ loop-i-preserved g c =
     let r = c.index-rows-i.result in
     let here : i < length rs = omega arith in
     let inv = subst (λ (l : List (Choices.Row g.row.K.Denot)). Progress k c.args.list.now (rows_of k rs) c.loop-i.list (reverse (rows_of k (take i rs))) l c.loop-i.start c.loop-i.count c.loop-i.base) (rows_from k rs i here r c.index-rows-i.is) c.loop-i.invariant.0 in
-    let next = next_row k rs c.requires.few c.requires.loads i here r c.index-rows-i.is _ (by_level c.price-all-offers.result) (get_or c.args.bounds.now i 0) inv.pairs c.price-all-offers.ensures (c.requires.bounds i r here c.index-rows-i.is) in
+    let next = next_row k rs c.requires.few c.requires.loads i here r c.index-rows-i.is _ (by_level c.price_all-offers.result) (get_or c.args.bounds.now i 0) inv.pairs c.price_all-offers.ensures (c.requires.bounds i r here c.index-rows-i.is) in
     let on = goes_on k c.args.list.now (rows_of k rs) c.loop-i.list (reverse (rows_of k (take i rs))) (rows_of k (drop (i + 1) rs)) (row_of k r) c.loop-i.start c.loop-i.count c.loop-i.base inv
     c.advance.new.list c.in-Ok.size (c.in-Ok.ensures (row_of k r) (reverse (rows_of k (take i rs))) (rows_of k (drop (i + 1) rs)) next) in (
       subst (λ (l : List (Choices.Row g.row.K.Denot)). Progress k c.args.list.now (rows_of k rs) c.advance.new.list l (rows_of k (drop (i + 1) rs)) (c.loop-i.start + c.loop-i.count) c.in-Ok.size (c.loop-i.start + c.loop-i.count + 1)) (sym (done_more k rs i here r c.index-rows-i.is)) on,
@@ -69,7 +69,7 @@ returns g c =
     record {
       room = end.2;
       list = end.0;
-      states = c.states-with.ensures ∙ end.1;
-      within = omega (arith, c.states-with.ensures, inv.room, inv.same);
+      states = c.states_with.ensures ∙ end.1;
+      within = omega (arith, c.states_with.ensures, inv.room, inv.same);
       last = record { count = c.loop-i.count; ends = inv.room; pairs = inv.pairs; position = inv.placed };
     }

@@ -17,8 +17,8 @@ returns g c =
     let room = length c.args.list.now in
     let buffer = length c.args.levels.now in
     let board = rows_stand k (listed_rows all) (omega (arith, counted all, all.few)) all.fit in
-    let done : Planned k rows c.args.list.now c.plan-listed.new.list c.args.levels.now c.plan-listed.new.levels c.plan-listed.result =
-    subst (λ (rs : List Row). Planned k (rows_of k rs) c.args.list.now c.plan-listed.new.list c.args.levels.now c.plan-listed.new.levels c.plan-listed.result) c.rows.ensures c.plan-listed.ensures in
+    let done : Planned k rows c.args.list.now c.plan_listed.new.list c.args.levels.now c.plan_listed.new.levels c.plan_listed.result =
+    subst (λ (rs : List Row). Planned k (rows_of k rs) c.args.list.now c.plan_listed.new.list c.args.levels.now c.plan_listed.new.levels c.plan_listed.result) c.rows.ensures c.plan_listed.ensures in
     record {
       answer = done.answer;
       list = done.list;

@@ -12,6 +12,6 @@ use Rattle.lives.proofs.sporadic.live.Goals as goal
 pub returns : goal.returns
 returns g c =
     let k = g.K.Kind.meaning in
-    let followed = c.book-after-book in
+    let followed = c.book_after-book in
     let asked = c.plan-plan in
     whole_life k g.met.K.Kind.laws (sporadic_rows_of k) SporadicFit (sporadic_rule k) (processor_figures c.args.processor.now) (map sporadic_call c.args.calls.now) Plan (lent c.args.list.now c.args.levels.now) (sporadic_figures followed.result) asked.result (lent asked.new.list asked.new.levels) (sporadic_figures followed.result) (sporadic_book_fits followed.result) followed.ensures.book refl (lent followed.new.list followed.new.levels) followed.ensures.left followed.auto.list followed.auto.levels asked.ensures.answer asked.ensures.list asked.ensures.levels

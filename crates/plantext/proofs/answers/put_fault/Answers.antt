@@ -8,8 +8,8 @@ pub returns : goal.returns
 returns c =
     let number : c.from.result ≡ (job_numbered c.args.fault.now).number = c.from.ensures ∙ c.number.ensures in
     record {
-      laid = behind (renamed (ap (λ n. line_of (codes "answer=") (decimal n)) number) c.put-line-at.ensures.laid)
-          (behind (renamed (ap (λ n. line_of (codes "line=") (decimal n)) c.line.ensures) c.put-line-at-2.ensures.laid)
-          (renamed (ap (λ n. line_of (codes "port=") (decimal n)) c.port.ensures) c.put-line.ensures.laid));
+      laid = behind (renamed (ap (λ n. line_of (codes "answer=") (decimal n)) number) c.put_line-at.ensures.laid)
+          (behind (renamed (ap (λ n. line_of (codes "line=") (decimal n)) c.line.ensures) c.put_line-at-2.ensures.laid)
+          (renamed (ap (λ n. line_of (codes "port=") (decimal n)) c.port.ensures) c.put_line.ensures.laid));
       short = omega arith;
     }

@@ -4,15 +4,15 @@ use Rattle.plantext.specs.Answers.{level_of, level_sign, level_signs}
 use Rattle.plantext.proofs.Laying.{behind}
 use Rattle.plantext.proofs.answers.put_levels.Goals as goal
 
-pub end-line-requires : goal.end-line-requires
-end-line-requires c =
+pub end_line-requires : goal.end_line-requires
+end_line-requires c =
     let long : length (level_signs c.args.levels.now) ≡ length c.args.levels.now = length-map c.args.levels.now (λ byte. level_sign (level_of byte)) in
-    omega (arith, c.put-bytes-at.ensures.stops, c.put-signs-at.ensures.stops)
+    omega (arith, c.put_bytes-at.ensures.stops, c.put_signs-at.ensures.stops)
 
 pub returns : goal.returns
 returns c =
     let long : length (level_signs c.args.levels.now) ≡ length c.args.levels.now = length-map c.args.levels.now (λ byte. level_sign (level_of byte)) in
     record {
-      laid = behind c.put-bytes-at.ensures (behind c.put-signs-at.ensures c.end-line.ensures);
-      short = omega (arith, c.put-bytes-at.ensures.stops, c.put-signs-at.ensures.stops, c.end-line.ensures.stops);
+      laid = behind c.put_bytes-at.ensures (behind c.put_signs-at.ensures c.end_line.ensures);
+      short = omega (arith, c.put_bytes-at.ensures.stops, c.put_signs-at.ensures.stops, c.end_line.ensures.stops);
     }

@@ -12,10 +12,10 @@ loop-port-preserved c =
     let levels = c.args.levels.now in
     let port = c.loop-port.port in
     let here : c.args.at + port < length c.loop-port.out = omega arith in
-    let more : level_signs (take (port + 1) levels) ≡ level_signs (take port levels) ++ (c.port-sign.result ∷ []) = map_more (λ byte. level_sign (level_of byte)) levels port 0 (omega arith) ∙ ap (λ sign. level_signs (take port levels) ++ (sign ∷ [])) (sym c.port-sign.ensures) in
+    let more : level_signs (take (port + 1) levels) ≡ level_signs (take port levels) ++ (c.port_sign.result ∷ []) = map_more (λ byte. level_sign (level_of byte)) levels port 0 (omega arith) ∙ ap (λ sign. level_signs (take port levels) ++ (sign ∷ [])) (sym c.port_sign.ensures) in
     stopped
     (add_assoc c.args.at port 1)
-    (renamed (sym more) (behind c.loop-port.invariant (laid_byte c.loop-port.out (c.args.at + port) c.port-sign.result here)))
+    (renamed (sym more) (behind c.loop-port.invariant (laid_byte c.loop-port.out (c.args.at + port) c.port_sign.result here)))
 
 pub returns : goal.returns
 returns c =

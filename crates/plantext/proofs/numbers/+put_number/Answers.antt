@@ -20,26 +20,26 @@ returns-then-n-lt10 t c =
     let within : c.args.at < length c.args.out.now = omega (arith, length_digit c.args.n c.if-n-lt10.true) in
     renamed (sym (decimal_digit c.args.n c.if-n-lt10.true)) (laid_byte c.args.out.now c.args.at (48 + c.args.n) within)
 
-pub put-number-next-requires : goal.put-number-next-requires
-put-number-next-requires t c =
+pub put_number-next-requires : goal.put_number-next-requires
+put_number-next-requires t c =
     let l = length_step c.args.n c.if-n-lt10.false c.ranges.n.fits in
     (omega arith, omega arith)
 
 pub bounds-out-next : goal.bounds-out-next
 bounds-out-next t c =
     let l = length_step c.args.n c.if-n-lt10.false c.ranges.n.fits in
-    omega (arith, c.put-number-next.ensures.stops, c.put-number-next.auto.out)
+    omega (arith, c.put_number-next.ensures.stops, c.put_number-next.auto.out)
 
-pub overflow-add-result-2 : goal.overflow-add-result-2
-overflow-add-result-2 t c =
+pub overflow_add-result-2 : goal.overflow_add-result-2
+overflow_add-result-2 t c =
     let l = length_step c.args.n c.if-n-lt10.false c.ranges.n.fits in
-    omega (arith, c.put-number-next.ensures.stops)
+    omega (arith, c.put_number-next.ensures.stops)
 
 pub returns : goal.returns
 returns t c =
     let l = length_step c.args.n c.if-n-lt10.false c.ranges.n.fits in
-    let front = c.put-number-next.ensures in
-    let within : c.put-number-next.result < length c.put-number-next.new.out = omega (arith, front.stops, c.put-number-next.auto.out) in
+    let front = c.put_number-next.ensures in
+    let within : c.put_number-next.result < length c.put_number-next.new.out = omega (arith, front.stops, c.put_number-next.auto.out) in
     renamed
     (sym (decimal_step c.args.n c.if-n-lt10.false c.ranges.n.fits))
-    (behind front (laid_byte c.put-number-next.new.out c.put-number-next.result (48 + c.args.n % 10) within))
+    (behind front (laid_byte c.put_number-next.new.out c.put_number-next.result (48 + c.args.n % 10) within))

@@ -5,11 +5,11 @@ use Rattle.board.proofs.offers.makes.draw.Goals as goal
 pub bounds-shares-device : goal.bounds-shares-device
 bounds-shares-device c = omega (arith, one_each c.args.standby.now c.args.shares.now c.requires.1.0 c.requires.1.1)
 
-pub overflow-mul-draw-in-loop-device : goal.overflow-mul-draw-in-loop-device
-overflow-mul-draw-in-loop-device c = omega (arith, device_within c.args.standby.now c.args.shares.now c.requires.1.0 c.requires.1.1 c.loop-device.device (omega arith))
+pub overflow_mul-draw-in-loop-device : goal.overflow_mul-draw-in-loop-device
+overflow_mul-draw-in-loop-device c = omega (arith, device_within c.args.standby.now c.args.shares.now c.requires.1.0 c.requires.1.1 c.loop-device.device (omega arith))
 
-pub overflow-add-draw : goal.overflow-add-draw
-overflow-add-draw c =
+pub overflow_add-draw : goal.overflow_add-draw
+overflow_add-draw c =
     let within = device_within c.args.standby.now c.args.shares.now c.requires.1.0 c.requires.1.1 c.loop-device.device (omega arith) in
     omega (arith, few_devices c.args.standby.now c.args.shares.now c.requires.1.0 c.requires.1.1)
 

@@ -5,5 +5,5 @@ use Rattle.board.proofs.periods.Hyperperiod.of_none.Goals as goal
 none_made : OfPeriods 1
 none_made = record { periods = []; in_range = refl; doubled = omega arith; is = refl }
 
-pub invariant-of-result : goal.invariant-of-result
-invariant-of-result c = (omega arith, (omega arith, (subst (λ h. ∥ OfPeriods h ∥₁) (sym c.multiple-of-none.ensures) ∣ none_made ∣₁, tt)))
+pub invariant_of-result : goal.invariant_of-result
+invariant_of-result c = (omega arith, (omega arith, (subst (λ h. ∥ OfPeriods h ∥₁) (sym c.multiple_of_none.ensures) ∣ none_made ∣₁, tt)))

@@ -9,11 +9,11 @@ use Rattle.board.proofs.periods.Hyperperiod.with.Goals as goal
 in_range : (p : ℕ) → 100 ≤ p → p ≤ 10000000 → period_fits p ≡ true
 in_range p low high = and_from _ _ (le-leb 100 p low) (le-leb p 10000000 high)
 
-pub invariant-of-result : goal.invariant-of-result
-invariant-of-result c =
+pub invariant_of-result : goal.invariant_of-result
+invariant_of-result c =
     let h = c.args.self.now in
     let p = c.args.period in
-    let is = c.common-multiple-micros.ensures.value in
+    let is = c.common_multiple-micros.ensures.value in
     let fits = in_range p (omega arith) (omega arith) in (
       omega (arith, lcm_pos h.micros p h.positive (omega arith)),
       (omega arith, (subst (λ n. ∥ OfPeriods n ∥₁) (sym is) (∥∥₁_map h.made (with_period h.micros p fits)), tt)),
@@ -23,6 +23,6 @@ pub returns : goal.returns
 returns c =
     let h = c.args.self.now.micros in
     let p = c.args.period in
-    let is : c.common-multiple-micros.result ≡ lcm h p = c.common-multiple-micros.ensures.value in
+    let is : c.common_multiple-micros.result ≡ lcm h p = c.common_multiple-micros.ensures.value in
     let short : lcm h p ≤ longest = omega arith in
     ap Some is ∙ sym (cond-true _ (Some (lcm h p)) None (and_from _ _ (in_range p (omega arith) (omega arith)) (le-leb (lcm h p) longest short)))

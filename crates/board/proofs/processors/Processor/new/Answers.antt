@@ -7,16 +7,16 @@ use Rattle.board.specs.Views.{processor_figures}
 use Rattle.board.proofs.Judging.{levels_judged, standby_judged}
 use Rattle.board.proofs.processors.Processor.new.Goals as goal
 
-pub invariant-of-result : goal.invariant-of-result
-invariant-of-result c =
-    let levels = levels_judged c.args.levels.now (omega arith) (omega arith) c.if-not-each-level-fits.ensures c.if-not-each-level-rises.ensures in
-    let standby = standby_judged c.args.standby.now (omega arith) c.if-not-each-at-most.ensures in
-    (omega arith, (omega arith, (ap levels_fit c.in-eight.ensures ∙ levels, (ap standby_fits c.in-eight-2.ensures ∙ standby, tt))))
+pub invariant_of-result : goal.invariant_of-result
+invariant_of-result c =
+    let levels = levels_judged c.args.levels.now (omega arith) (omega arith) c.if-not-each_level_fits.ensures c.if-not-each_level_rises.ensures in
+    let standby = standby_judged c.args.standby.now (omega arith) c.if-not-each_at_most.ensures in
+    (omega arith, (omega arith, (ap levels_fit c.in_eight.ensures ∙ levels, (ap standby_fits c.in_eight-2.ensures ∙ standby, tt))))
 
 pub returns : goal.returns
 returns c =
-    let levels = levels_judged c.args.levels.now (omega arith) (omega arith) c.if-not-each-level-fits.ensures c.if-not-each-level-rises.ensures in
-    let standby = standby_judged c.args.standby.now (omega arith) c.if-not-each-at-most.ensures in
+    let levels = levels_judged c.args.levels.now (omega arith) (omega arith) c.if-not-each_level_fits.ensures c.if-not-each_level_rises.ensures in
+    let standby = standby_judged c.args.standby.now (omega arith) c.if-not-each_at_most.ensures in
     let p : ProcessorFigures = record { levels = c.args.levels.now; standby = c.args.standby.now } in
-    let same : ◌≡◌ {A = Result ProcessorFigures Fault} (Ok (record { levels = take (length c.args.levels.now) c.in-eight.result; standby = take (length c.args.standby.now) c.in-eight-2.result })) (Ok p) = rw (c.in-eight.ensures, c.in-eight-2.ensures) in
+    let same : ◌≡◌ {A = Result ProcessorFigures Fault} (Ok (record { levels = take (length c.args.levels.now) c.in_eight.result; standby = take (length c.args.standby.now) c.in_eight-2.result })) (Ok p) = rw (c.in_eight.ensures, c.in_eight-2.ensures) in
     same ∙ sym (cond-true (processor_fits p) (Ok p) (Err BadProcessor) (and_from _ _ levels standby))

@@ -27,34 +27,34 @@ returns-then-number-levels c =
     let past : length p.levels ≤ c.args.number = subst (λ xs. length xs ≤ c.args.number) c.levels-levels.ensures c.if-number-levels.true in
     at_level p t c.args.hyperperiod.now.micros c.args.number None None (c.if-not-belongs.ensures ∙ ap (belongs p t) c.micros.ensures) (level_past p.levels c.args.number past) refl
 
-pub is-offered-requires : goal.is-offered-requires
-is-offered-requires c = in_range c.levels-levels.result.now _ c.args.number _ c.levels-levels.ensures c.args.self.now.levels_fit (omega arith)
+pub is_offered-requires : goal.is_offered-requires
+is_offered-requires c = in_range c.levels-levels.result.now _ c.args.number _ c.levels-levels.ensures c.args.self.now.levels_fit (omega arith)
 
-pub returns-then-not-is-offered : goal.returns-then-not-is-offered
-returns-then-not-is-offered c =
+pub returns-then-not-is_offered : goal.returns-then-not-is_offered
+returns-then-not-is_offered c =
     let p = processor_figures c.args.self.now in
     let t = task_figures c.args.task.now in
     let h = c.args.hyperperiod.now.micros in
     let l : Level = get_or c.levels-levels.result.now c.args.number (record { mhz = 0; mw = 0 }) in
-    at_level p t h c.args.number (Some l) None (c.if-not-belongs.ensures ∙ ap (belongs p t) c.micros.ensures) (there c.levels-levels.result.now p.levels c.args.number _ c.levels-levels.ensures (omega arith)) (sym (cond-false (offered t l) (Some (measure p t h l)) None (sym c.if-not-is-offered.ensures)))
+    at_level p t h c.args.number (Some l) None (c.if-not-belongs.ensures ∙ ap (belongs p t) c.micros.ensures) (there c.levels-levels.result.now p.levels c.args.number _ c.levels-levels.ensures (omega arith)) (sym (cond-false (offered t l) (Some (measure p t h l)) None (sym c.if-not-is_offered.ensures)))
 
 pub measure-requires : goal.measure-requires
 measure-requires c = record {
   level = in_range c.levels-levels.result.now _ c.args.number _ c.levels-levels.ensures c.args.self.now.levels_fit (omega arith);
   shares = eqb-true _ _ (and_parts _ _ (sym c.if-not-belongs.ensures)).0;
   short = omega (arith, c.args.hyperperiod.now.short);
-  taken = sym c.if-not-is-offered.ensures;
+  taken = sym c.if-not-is_offered.ensures;
 }
 
-pub invariant-of-result : goal.invariant-of-result
-invariant-of-result c =
+pub invariant_of-result : goal.invariant_of-result
+invariant_of-result c =
     let p = c.args.self.now in
     let t = c.args.task.now in
     let h = c.args.hyperperiod.now in
     let l : Level = get_or c.levels-levels.result.now c.args.number (record { mhz = 0; mw = 0 }) in
     let belong : belongs (processor_figures p) (task_figures t) h.micros ≡ true = sym (c.if-not-belongs.ensures ∙ ap (belongs (processor_figures p) (task_figures t)) c.micros.ensures) in
     let parts = and_parts (eqb (length (task_figures t).shares) (length (processor_figures p).standby)) (counts_in h.micros t.due) belong in
-    let here = offered_here p t h.micros l c.args.number (eqb-true _ _ parts.0) parts.1 h.short h.made (there c.levels-levels.result.now _ c.args.number _ c.levels-levels.ensures (omega arith)) (sym c.if-not-is-offered.ensures) in
+    let here = offered_here p t h.micros l c.args.number (eqb-true _ _ parts.0) parts.1 h.short h.made (there c.levels-levels.result.now _ c.args.number _ c.levels-levels.ensures (omega arith)) (sym c.if-not-is_offered.ensures) in
     (subst (λ m. Offered m) (sym (c.measure.ensures ∙ ap (λ n. measure (processor_figures p) (task_figures t) n l) c.micros-2.ensures)) here, tt)
 
 pub returns : goal.returns
@@ -63,4 +63,4 @@ returns c =
     let t = task_figures c.args.task.now in
     let h = c.args.hyperperiod.now.micros in
     let l : Level = get_or c.levels-levels.result.now c.args.number (record { mhz = 0; mw = 0 }) in
-    at_level p t h c.args.number (Some l) (Some c.measure.result) (c.if-not-belongs.ensures ∙ ap (belongs p t) c.micros.ensures) (there c.levels-levels.result.now p.levels c.args.number _ c.levels-levels.ensures (omega arith)) (ap Some (c.measure.ensures ∙ ap (λ n. measure p t n l) c.micros-2.ensures) ∙ sym (cond-true (offered t l) (Some (measure p t h l)) None (sym c.if-not-is-offered.ensures)))
+    at_level p t h c.args.number (Some l) (Some c.measure.result) (c.if-not-belongs.ensures ∙ ap (belongs p t) c.micros.ensures) (there c.levels-levels.result.now p.levels c.args.number _ c.levels-levels.ensures (omega arith)) (ap Some (c.measure.ensures ∙ ap (λ n. measure p t n l) c.micros-2.ensures) ∙ sym (cond-true (offered t l) (Some (measure p t h l)) None (sym c.if-not-is_offered.ensures)))

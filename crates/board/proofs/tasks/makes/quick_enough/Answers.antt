@@ -6,8 +6,8 @@ use Rattle.board.specs.Views.{processor_figures}
 use Rattle.board.proofs.Leveling.{level_within, some_level, top_last}
 use Rattle.board.proofs.tasks.makes.quick_enough.Goals as goal
 
-pub busy-time-requires : goal.busy-time-requires
-busy-time-requires c =
+pub busy_time-requires : goal.busy_time-requires
+busy_time-requires c =
     let ls = c.levels-levels.result.now in
     let fit : levels_fit ls ≡ true = subst (λ xs. levels_fit xs ≡ true) (sym c.levels-levels.ensures) c.args.processor.now.levels_fit in
     let count = some_level ls fit in
@@ -20,4 +20,4 @@ returns c =
     let fit : levels_fit ls ≡ true = subst (λ xs. levels_fit xs ≡ true) (sym c.levels-levels.ensures) c.args.processor.now.levels_fit in
     let d : Level = record { mhz = 0; mw = 0 } in
     let top : (get_or ls (length ls - 1) d).mhz ≡ top_speed (processor_figures c.args.processor.now).levels = sym (top_last ls d (some_level ls fit)) ∙ ap top_speed c.levels-levels.ensures in
-    ap (λ t. leb t c.time-left.result) (c.busy-time.ensures ∙ ap (busy_time c.args.figures.cycles) top) ∙ ap (leb _) c.time-left.ensures
+    ap (λ t. leb t c.time_left.result) (c.busy_time.ensures ∙ ap (busy_time c.args.figures.cycles) top) ∙ ap (leb _) c.time_left.ensures

@@ -17,7 +17,7 @@ returns g c =
     let p = processor_figures book.processor in
     let ss = standing 1 (figures_of book.tasks) in
     let h = joint_period ss in
-    let e = rows_are k p (few_levels p (processor_good book.processor)) h (λ s. periodic_limit h book.capacity.thousandths) ss (listed_rows c.periodic-rows-rows.result) c.periodic-rows-rows.ensures in
+    let e = rows_are k p (few_levels p (processor_good book.processor)) h (λ s. periodic_limit h book.capacity.thousandths) ss (listed_rows c.periodic_rows-rows.result) c.periodic_rows-rows.ensures in
     record {
       answer = c.plan.ensures.answer ∙ ap (planned k (length c.args.list.now) (length c.args.levels.now)) e;
       list = c.plan.ensures.list ∙ ap (λ rows. list_after k rows c.plan.result c.args.list.now c.plan.new.list) e;

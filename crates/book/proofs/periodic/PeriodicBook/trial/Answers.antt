@@ -27,8 +27,8 @@ returns g c =
     let h = joint_period ss in
     let room = length c.args.list.now in
     let buffer = length c.args.levels.now in
-    let e = rows_are k p (few_levels p (processor_good book.processor)) h (λ s. periodic_limit h c.args.thousandths) ss (listed_rows c.periodic-rows-rows.result) c.periodic-rows-rows.ensures in
-    let taken : refused p b.tally (trial c.args.thousandths) ≡ None = ap (λ (x : Bool). cond (not x) (Some BadSetting) None) (sym c.if-not-capacity-fits.ensures) in
+    let e = rows_are k p (few_levels p (processor_good book.processor)) h (λ s. periodic_limit h c.args.thousandths) ss (listed_rows c.periodic_rows-rows.result) c.periodic_rows-rows.ensures in
+    let taken : refused p b.tally (trial c.args.thousandths) ≡ None = ap (λ (x : Bool). cond (not x) (Some BadSetting) None) (sym c.if-not-capacity_fits.ensures) in
     record {
       answer = c.plan.ensures.answer ∙ ap (planned k room buffer) e ∙ ap (λ (o : Option Fault). unless_declined o (periodic_plan k (at_capacity b c.args.thousandths) room buffer)) (sym taken);
       book = ap (λ n. book_figures p (record { capacity = n; clock = 0; tasks = b.tally.tasks })) c.drop-guard.ensures ∙ accepted_changes b (trial c.args.thousandths) taken;

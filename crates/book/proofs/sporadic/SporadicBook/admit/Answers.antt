@@ -10,32 +10,32 @@ use Rattle.book.specs.Views.{sporadic_figures}
 use Rattle.book.proofs.Admitting.{by_port, by_figures, tasks_with, sporadic_taken, sporadic_fit}
 use Rattle.book.proofs.sporadic.SporadicBook.admit.Goals as goal
 
-pub returns-in-err-place : goal.returns-in-err-place
-returns-in-err-place c =
+pub returns-in_err-place : goal.returns-in_err-place
+returns-in_err-place c =
     let b = sporadic_figures c.args.self.now in
     let task = task_of c.args.cycles c.args.access c.args.shares.now (Deadline c.args.deadline) in
     let call = admit c.args.port task in
-    let f = c.in-err-place.field-0.0 in
-    let r = err_from_is_err_and c.from-residual.result c.from-residual.ensures.1 in
-    let e = by_port b.processor 1000 b.tally.clock c.args.self.now.tasks c.args.port task f c.in-err-place.ensures in
+    let f = c.in_err-place.field-0.0 in
+    let r = err_from_is_err_and c.from_residual.result c.from_residual.ensures.1 in
+    let e = by_port b.processor 1000 b.tally.clock c.args.self.now.tasks c.args.port task f c.in_err-place.ensures in
     record { answer = r.1 ∙ ap Err r.2 ∙ declined_answer b call f e; book = declined_stays b call f e }
 
-pub returns-in-err-task : goal.returns-in-err-task
-returns-in-err-task c =
+pub returns-in_err-task : goal.returns-in_err-task
+returns-in_err-task c =
     let b = sporadic_figures c.args.self.now in
     let task = task_of c.args.cycles c.args.access c.args.shares.now (Deadline c.args.deadline) in
     let call = admit c.args.port task in
-    let f = c.in-err-task.field-0.0 in
-    let r = err_from_is_err_and c.from-residual-in-err-task.result c.from-residual-in-err-task.ensures.1 in
-    let e = by_figures b.processor 1000 b.tally.clock c.args.self.now.tasks c.args.port task c.in-ok-place.place c.in-ok-place.ensures f c.in-err-task.ensures in
+    let f = c.in_err-task.field-0.0 in
+    let r = err_from_is_err_and c.from_residual-in_err-task.result c.from_residual-in_err-task.ensures.1 in
+    let e = by_figures b.processor 1000 b.tally.clock c.args.self.now.tasks c.args.port task c.in_ok-place.place c.in_ok-place.ensures f c.in_err-task.ensures in
     record { answer = r.1 ∙ ap Err r.2 ∙ declined_answer b call f e; book = declined_stays b call f e }
 
-pub invariant-of-self : goal.invariant-of-self
-invariant-of-self c =
+pub invariant_of-self : goal.invariant_of-self
+invariant_of-self c =
     let book = c.args.self.now in (
-      length-set book.tasks c.in-ok-place.place (Some c.in-ok-task.task) ∙ book.ports,
+      length-set book.tasks c.in_ok-place.place (Some c.in_ok-task.task) ∙ book.ports,
       (
-        sporadic_fit book c.args.port c.args.cycles c.args.access c.args.shares.now c.args.deadline c.in-ok-place.place c.in-ok-place.ensures c.in-ok-task.task c.in-ok-task.ensures,
+        sporadic_fit book c.args.port c.args.cycles c.args.access c.args.shares.now c.args.deadline c.in_ok-place.place c.in_ok-place.ensures c.in_ok-task.task c.in_ok-task.ensures,
         tt,
       ),
     )
@@ -45,8 +45,8 @@ returns c =
     let b = sporadic_figures c.args.self.now in
     let task = task_of c.args.cycles c.args.access c.args.shares.now (Deadline c.args.deadline) in
     let call = admit c.args.port task in
-    let e = sporadic_taken c.args.self.now c.args.port c.args.cycles c.args.access c.args.shares.now c.args.deadline c.in-ok-place.place c.in-ok-place.ensures c.in-ok-task.task c.in-ok-task.ensures in
-    let tasks = tasks_with b.processor 1000 b.tally.clock c.args.self.now.tasks c.args.port task c.in-ok-place.place c.in-ok-place.ensures c.in-ok-task.task c.in-ok-task.ensures in
+    let e = sporadic_taken c.args.self.now c.args.port c.args.cycles c.args.access c.args.shares.now c.args.deadline c.in_ok-place.place c.in_ok-place.ensures c.in_ok-task.task c.in_ok-task.ensures in
+    let tasks = tasks_with b.processor 1000 b.tally.clock c.args.self.now.tasks c.args.port task c.in_ok-place.place c.in_ok-place.ensures c.in_ok-task.task c.in_ok-task.ensures in
     record {
       answer = accepted_answer b call e;
       book = ap (λ xs. book_figures b.processor (record { capacity = 1000; clock = b.tally.clock; tasks = xs })) tasks ∙ accepted_changes b call e;

@@ -15,7 +15,7 @@ returns g c =
     let book = c.args.self.now in
     let p = processor_figures book.processor in
     let ss = by_deadline (standing 1 (figures_of book.tasks)) in
-    let e = rows_are k p (few_levels p (processor_good book.processor)) 1 (λ s. sporadic_limit (due_of s) book.clock) ss (listed_rows c.sporadic-rows-rows.result) c.sporadic-rows-rows.ensures in
+    let e = rows_are k p (few_levels p (processor_good book.processor)) 1 (λ s. sporadic_limit (due_of s) book.clock) ss (listed_rows c.sporadic_rows-rows.result) c.sporadic_rows-rows.ensures in
     record {
       answer = c.plan.ensures.answer ∙ ap (planned k (length c.args.list.now) (length c.args.levels.now)) e;
       list = c.plan.ensures.list ∙ ap (λ rows. list_after k rows c.plan.result c.args.list.now c.plan.new.list) e;

@@ -16,6 +16,6 @@ returns g c =
       first = one;
       second = other;
       renumbered = λ m f h e d.
-          sporadic_agree g.K.Kind.meaning g.met.K.Kind.laws (Coded-set g.row.K.coded) p (life p (map sporadic_call c.args.calls.now)) (life p (map sporadic_call c.args.others.now)) m (length c.args.list.now) (length c.args.levels.now) (length c.args.other-list.now) (length c.args.other-levels.now)
+          sporadic_agree g.K.Kind.meaning g.met.K.Kind.laws (Coded-set g.row.K.coded) p (life p (map sporadic_call c.args.calls.now)) (life p (map sporadic_call c.args.others.now)) m (length c.args.list.now) (length c.args.levels.now) (length c.args.other_list.now) (length c.args.other_levels.now)
           (subst SporadicFit one.stands (sporadic_book_fits c.live-first.result.book)) (subst SporadicFit other.stands (sporadic_book_fits c.live-second.result.book)) f h (sym one.answered ∙ e) (sym other.answered ∙ d);
     }

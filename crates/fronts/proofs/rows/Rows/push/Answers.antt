@@ -5,7 +5,7 @@ use Rattle.fronts.specs.Rows.{row_fits, rows_fit}
 use Rattle.fronts.specs.Views.{listed_rows}
 use Rattle.fronts.proofs.Apart.{counted, fit_push}
 use Rattle.fronts.proofs.rows.Rows.push.Goals as goal
-use Rattle.fronts.proofs.rows.Rows.push.Goals.{then-self-ge48-via-then-self-ge48, then-self-ge48-via-else-self-ge48+then-not-row-fits}
+use Rattle.fronts.proofs.rows.Rows.push.Goals.{then-self-ge48-via-then-self-ge48, then-self-ge48-via-else-self-ge48+then-not-row_fits}
 
 pub returns-then-self-ge48 : goal.returns-then-self-ge48
 returns-then-self-ge48 c =
@@ -13,16 +13,16 @@ returns-then-self-ge48 c =
     record {
       answer = elim c.then-self-ge48.branch [
         | then-self-ge48-via-then-self-ge48 w ↦ sym (and_left _ _ (le-ltb (length (listed_rows rs)) 48 (omega (arith, counted rs, w.if-self-ge48.true))))
-        | then-self-ge48-via-else-self-ge48+then-not-row-fits w ↦ sym (and_right _ _ (sym (w.if-not-row-fits.ensures ∙ ap (λ xs. row_fits xs c.args.row.now) w.rows.ensures)))
+        | then-self-ge48-via-else-self-ge48+then-not-row_fits w ↦ sym (and_right _ _ (sym (w.if-not-row_fits.ensures ∙ ap (λ xs. row_fits xs c.args.row.now) w.rows.ensures)))
       ];
       rows = refl;
     }
 
-pub invariant-of-self : goal.invariant-of-self
-invariant-of-self c =
+pub invariant_of-self : goal.invariant_of-self
+invariant_of-self c =
     let rs = c.args.self.now in
     let r = c.args.row.now in
-    let ok : row_fits (listed_rows rs) r ≡ true = sym (c.if-not-row-fits.ensures ∙ ap (λ xs. row_fits xs r) c.rows.ensures) in
+    let ok : row_fits (listed_rows rs) r ≡ true = sym (c.if-not-row_fits.ensures ∙ ap (λ xs. row_fits xs r) c.rows.ensures) in
     let room : rs.count < length rs.rows = omega (arith, rs.places) in
     (length-set rs.rows rs.count r ∙ rs.places, (omega arith, (ap rows_fit (take_more_set rs.rows rs.count r room) ∙ fit_push (listed_rows rs) r rs.fit ok, tt)))
 
@@ -30,6 +30,6 @@ pub returns : goal.returns
 returns c =
     let rs = c.args.self.now in
     let r = c.args.row.now in
-    let ok : row_fits (listed_rows rs) r ≡ true = sym (c.if-not-row-fits.ensures ∙ ap (λ xs. row_fits xs r) c.rows.ensures) in
+    let ok : row_fits (listed_rows rs) r ≡ true = sym (c.if-not-row_fits.ensures ∙ ap (λ xs. row_fits xs r) c.rows.ensures) in
     let room : rs.count < length rs.rows = omega (arith, rs.places) in
     record { answer = sym (and_from _ _ (lt-ltb (length (listed_rows rs)) 48 (omega (arith, counted rs))) ok); rows = take_more_set rs.rows rs.count r room }

@@ -25,7 +25,7 @@ loop-level-preserved c =
     let os = c.args.offers.now in
     let i = c.loop-level.level in
     let here : i < length os = omega arith in
-    sym (pass_more (absent os) (range_with_len 0 8) i 0 (omega arith) (test_at os i c.index-offers-level.result (omega arith) here c.index-offers-level.is ∙ ap (λ o. not (is_some o)) (c.index-offers-level.is ∙ c.in-default.is))) ∙ c.loop-level.invariant
+    sym (pass_more (absent os) (range_with_len 0 8) i 0 (omega arith) (test_at os i c.index-offers-level.result (omega arith) here c.index-offers-level.is ∙ ap (λ o. not (is_some o)) (c.index-offers-level.is ∙ c.in_default.is))) ∙ c.loop-level.invariant
 
 pub returns : goal.returns
 returns c = sym (sym c.loop-level.invariant ∙ pass_all (absent c.args.offers.now) (range_with_len 0 8) c.loop-level.level (omega arith))

@@ -23,13 +23,13 @@ returns g c =
     let found = c.args.answer.now in
     let stage = stage_view c.args.self.now.stage in
     let next = turn k text room (length found) stage in
-    let gave : Some (record { outcome = c.in-ok-outcome.outcome; length = c.write-answer-length.result }) ≡ answered g.K.Kind.numbers next found = search rules in
+    let gave : Some (record { outcome = c.in_ok-outcome.outcome; length = c.write_answer-length.result }) ≡ answered g.K.Kind.numbers next found = search rules in
     let came : stage_view c.turn.new.self.stage ≡ stage_after stage next = search rules in
     record {
       answer = gave;
       job = came;
       list = search rules;
       text = search rules;
-      within = subst (λ n. n ≤ length found) (sym c.write-answer-length.ensures.answer) (written_within _ found c.write-answer-length.ensures.fits);
+      within = subst (λ n. n ≤ length found) (sym c.write_answer-length.ensures.answer) (written_within _ found c.write_answer-length.ensures.fits);
       fewer = λ e. subst (λ s. most_left text s < most_left text stage) (sym came) (fewer_left k text room (length found) g.K.Kind.numbers found stage (subst (λ r. is_some r ≡ true) gave e));
     }

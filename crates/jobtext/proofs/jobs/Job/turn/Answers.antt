@@ -14,7 +14,7 @@ returns-else-text-going g c =
     let going = c.in-Going.going in
     let more : going.at < length text = c.if-text-going.false in
     let inside : leb (length text) going.at ≡ false = grind (arith, nat_tests) in
-    let did = c.go-on-turn.result in
-    subst (λ (s : Stage). Turns (turn k text room c.args.room (stage_view s)) (stage_view s) (Some did.outcome) (stage_view did.stage) c.go-on-turn.new.levels c.args.list.now c.go-on-turn.new.list) (sym c.in-Going.is)
-    (subst (λ (b : Bool). Turns (cond b None (Some (judged_call k text room c.args.room going.at going.line (book_view going.book)))) (going_view going) (Some did.outcome) (stage_view did.stage) c.go-on-turn.new.levels c.args.list.now c.go-on-turn.new.list) (sym inside)
-    (did.outcome, (refl, c.go-on-turn.ensures)))
+    let did = c.go_on-turn.result in
+    subst (λ (s : Stage). Turns (turn k text room c.args.room (stage_view s)) (stage_view s) (Some did.outcome) (stage_view did.stage) c.go_on-turn.new.levels c.args.list.now c.go_on-turn.new.list) (sym c.in-Going.is)
+    (subst (λ (b : Bool). Turns (cond b None (Some (judged_call k text room c.args.room going.at going.line (book_view going.book)))) (going_view going) (Some did.outcome) (stage_view did.stage) c.go_on-turn.new.levels c.args.list.now c.go_on-turn.new.list) (sym inside)
+    (did.outcome, (refl, c.go_on-turn.ensures)))

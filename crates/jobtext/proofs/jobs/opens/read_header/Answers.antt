@@ -10,21 +10,21 @@ use Rattle.jobtext.specs.Views.{started_view}
 use Rattle.jobtext.proofs.Opening.{header_left, faulty_header, with_processor, bad_processor}
 use Rattle.jobtext.proofs.jobs.opens.read_header.Goals as goal
 
-pub overflow-sub-result : goal.overflow-sub-result
-overflow-sub-result c =
-    let left = header_left c.args.text.now (sym c.too-long.ensures ∙ c.if-too-long.false) (place c.behind-reader.result) c.behind-reader.ensures (header_figures c.in-ok-header.header) (place c.header.new.self) c.in-ok-header.ensures in
-    omega (arith, c.header.new.self.some, c.bytes-left.ensures)
+pub overflow_sub-result : goal.overflow_sub-result
+overflow_sub-result c =
+    let left = header_left c.args.text.now (sym c.too_long.ensures ∙ c.if-too_long.false) (place c.behind-reader.result) c.behind-reader.ensures (header_figures c.in_ok-header.header) (place c.header.new.self) c.in_ok-header.ensures in
+    omega (arith, c.header.new.self.some, c.bytes_left.ensures)
 
-pub overflow-sub-result-in-Err : goal.overflow-sub-result-in-Err
-overflow-sub-result-in-Err c = omega (arith, c.header.new.self.some, c.line-number-line.ensures)
+pub overflow_sub-result-in-Err : goal.overflow_sub-result-in-Err
+overflow_sub-result-in-Err c = omega (arith, c.header.new.self.some, c.line_number-line.ensures)
 
-pub invariant-of-result : goal.invariant-of-result
-invariant-of-result c =
-    let left = header_left c.args.text.now (sym c.too-long.ensures ∙ c.if-too-long.false) (place c.behind-reader.result) c.behind-reader.ensures (header_figures c.in-ok-header.header) (place c.header.new.self) c.in-ok-header.ensures in
+pub invariant_of-result : goal.invariant_of-result
+invariant_of-result c =
+    let left = header_left c.args.text.now (sym c.too_long.ensures ∙ c.if-too_long.false) (place c.behind-reader.result) c.behind-reader.ensures (header_figures c.in_ok-header.header) (place c.header.new.self) c.in_ok-header.ensures in
     let p = c.in-Ok.processor in (
-      omega (arith, c.header.new.self.some, c.line-number-line.ensures),
+      omega (arith, c.header.new.self.some, c.line_number-line.ensures),
       (
-        omega (arith, c.header.new.self.some, c.line-number-line.ensures, c.bytes-left.ensures),
+        omega (arith, c.header.new.self.some, c.line_number-line.ensures, c.bytes_left.ensures),
         (
           ap length c.standby.ensures ∙ sym (ap (λ (b : JobBook). length b.figures.processor.standby) c.of.ensures),
           (omega (arith, ap length c.standby.ensures, length-take p.device_count p.standby, p.few_devices), tt),
@@ -32,23 +32,23 @@ invariant-of-result c =
       ),
     )
 
-pub returns-in-err-header : goal.returns-in-err-header
-returns-in-err-header c =
-    let r = err_from_is_err_and c.from-residual.result c.from-residual.ensures.1 in
+pub returns-in_err-header : goal.returns-in_err-header
+returns-in_err-header c =
+    let r = err_from_is_err_and c.from_residual.result c.from_residual.ensures.1 in
     ap started_view r.1 ∙ ap (λ e. opening Energy (faulty e)) r.2
-    ∙ faulty_header c.args.text.now (sym c.too-long.ensures ∙ c.if-too-long.false) (place c.behind-reader.result) c.behind-reader.ensures c.in-err-header.field-0.0 c.in-err-header.ensures
+    ∙ faulty_header c.args.text.now (sym c.too_long.ensures ∙ c.if-too_long.false) (place c.behind-reader.result) c.behind-reader.ensures c.in_err-header.field-0.0 c.in_err-header.ensures
 
 pub returns-in-Ok : goal.returns-in-Ok
 returns-in-Ok c =
     let text = c.args.text.now in
-    let h = header_figures c.in-ok-header.header in
+    let h = header_figures c.in_ok-header.header in
     let q = place c.header.new.self in
-    ap (λ n. opening h.kind (going (length text - n) c.line-number-line.result (book_view c.of.result))) c.bytes-left.ensures
-    ∙ ap (λ l. opening h.kind (going (length text - length q.rest) l (book_view c.of.result))) c.line-number-line.ensures
+    ap (λ n. opening h.kind (going (length text - n) c.line_number-line.result (book_view c.of.result))) c.bytes_left.ensures
+    ∙ ap (λ l. opening h.kind (going (length text - length q.rest) l (book_view c.of.result))) c.line_number-line.ensures
     ∙ ap (λ b. opening h.kind (going (length text - length q.rest) q.line b)) c.of.ensures
-    ∙ with_processor text (sym c.too-long.ensures ∙ c.if-too-long.false) (place c.behind-reader.result) c.behind-reader.ensures h q c.in-ok-header.ensures (processor_figures c.in-Ok.processor) c.in-Ok.ensures
+    ∙ with_processor text (sym c.too_long.ensures ∙ c.if-too_long.false) (place c.behind-reader.result) c.behind-reader.ensures h q c.in_ok-header.ensures (processor_figures c.in-Ok.processor) c.in-Ok.ensures
 
 pub returns-in-Err : goal.returns-in-Err
 returns-in-Err c =
-    ap (λ l. opening Energy (faulty (Refused c.in-Err.fault (l - 1)))) c.line-number-line.ensures
-    ∙ bad_processor c.args.text.now (sym c.too-long.ensures ∙ c.if-too-long.false) (place c.behind-reader.result) c.behind-reader.ensures (header_figures c.in-ok-header.header) (place c.header.new.self) c.in-ok-header.ensures c.in-Err.fault c.in-Err.ensures
+    ap (λ l. opening Energy (faulty (Refused c.in-Err.fault (l - 1)))) c.line_number-line.ensures
+    ∙ bad_processor c.args.text.now (sym c.too_long.ensures ∙ c.if-too_long.false) (place c.behind-reader.result) c.behind-reader.ensures (header_figures c.in_ok-header.header) (place c.header.new.self) c.in_ok-header.ensures c.in-Err.fault c.in-Err.ensures

@@ -6,20 +6,20 @@ use Rattle.jobtext.proofs.Making.{same_processor}
 use Rattle.jobtext.proofs.Turning.{call_left}
 use Rattle.jobtext.proofs.jobs.turns.take_call.Goals as goal
 
-pub overflow-sub-stage : goal.overflow-sub-stage
-overflow-sub-stage g c =
+pub overflow_sub-stage : goal.overflow_sub-stage
+overflow_sub-stage g c =
     let going = c.args.going.now in
     let left = call_left c.args.text.now going.at going.line (place c.behind-reader.result) c.behind-reader.ensures c.rule.result going.devices (call_figures c.rule.result c.in-Ok.call) (place c.call.new.self) c.in-Ok.ensures.call in
-    omega (arith, c.bytes-left.ensures, c.call.new.self.some, going.few, c.requires.inside)
+    omega (arith, c.bytes_left.ensures, c.call.new.self.some, going.few, c.requires.inside)
 
-pub invariant-of-stage : goal.invariant-of-stage
-invariant-of-stage g c =
+pub invariant_of-stage : goal.invariant_of-stage
+invariant_of-stage g c =
     let going = c.args.going.now in
     let left = call_left c.args.text.now going.at going.line (place c.behind-reader.result) c.behind-reader.ensures c.rule.result going.devices (call_figures c.rule.result c.in-Ok.call) (place c.call.new.self) c.in-Ok.ensures.call in
     let b = book_view going.book in (
-      omega (arith, c.line-number.ensures, c.call.new.self.some),
+      omega (arith, c.line_number.ensures, c.call.new.self.some),
       (
-        omega (arith, c.line-number.ensures, c.bytes-left.ensures, c.call.new.self.some, going.few, c.requires.inside),
+        omega (arith, c.line_number.ensures, c.bytes_left.ensures, c.call.new.self.some, going.few, c.requires.inside),
         (
           going.all_devices
               ∙ sym (ap (λ (p : ProcessorFigures). length p.standby) (same_processor g.K.Kind.meaning (length c.args.list.now) b (call_figures b.rule c.in-Ok.call)))

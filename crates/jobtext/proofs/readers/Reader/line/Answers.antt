@@ -3,19 +3,19 @@ use Rattle.std.proofs.lemmas.List.{take_rest}
 use Rattle.jobtext.specs.Lines.{Cut}
 use Rattle.jobtext.proofs.readers.Reader.line.Goals as goal
 
-pub invariant-of-self : goal.invariant-of-self
-invariant-of-self c =
-    let inside : c.in-ok-length.length < length c.args.self.now.rest.now = c.in-ok-length.ensures.inside in
+pub invariant_of-self : goal.invariant_of-self
+invariant_of-self c =
+    let inside : c.in_ok-length.length < length c.args.self.now.rest.now = c.in_ok-length.ensures.inside in
     (omega arith, (omega (arith, c.args.self.now.few), tt))
 
 pub returns : goal.returns
 returns c =
-    let n = c.in-ok-length.length in
+    let n = c.in_ok-length.length in
     let bs = c.args.self.now.rest.now in
     let whole : n - 0 ≡ n = omega arith in
     record {
       cut = ap (λ m. Some (record { line = take m bs; rest = take (length bs - (n + 1)) (drop (n + 1) bs) })) whole
           ∙ ap (λ l. Some (record { line = take n bs; rest = l })) (take_rest bs (n + 1))
-          ∙ c.in-ok-length.ensures.cut;
+          ∙ c.in_ok-length.ensures.cut;
       number = refl;
     }

@@ -15,13 +15,13 @@ read rule q v r e form is = ap (formed q.line r) is ∙ by_value (codes "call=")
 pub returns-in-Some : goal.returns-in-Some
 returns-in-Some c =
     record {
-      word = read c.args.rule (place c.args.self.now) c.in-ok-name.name.now (place c.value.new.self) c.in-ok-name.ensures (Some c.in-Some.word) c.in-Some.ensures.word;
+      word = read c.args.rule (place c.args.self.now) c.in_ok-name.name.now (place c.value.new.self) c.in_ok-name.ensures (Some c.in-Some.word) c.in-Some.ensures.word;
       taken = c.in-Some.ensures.taken;
     }
 
 pub returns-in-None : goal.returns-in-None
 returns-in-None c =
     record {
-      word = ap (λ l. Err (BadValue l)) c.line-number-line.ensures ∙ read c.args.rule (place c.args.self.now) c.in-ok-name.name.now (place c.value.new.self) c.in-ok-name.ensures None c.in-None.ensures.word;
+      word = ap (λ l. Err (BadValue l)) c.line_number-line.ensures ∙ read c.args.rule (place c.args.self.now) c.in_ok-name.name.now (place c.value.new.self) c.in_ok-name.ensures None c.in-None.ensures.word;
       taken = tt;
     }

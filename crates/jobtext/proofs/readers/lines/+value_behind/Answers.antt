@@ -11,7 +11,7 @@ pub returns-in-len1-up-line : goal.returns-in-len1-up-line
 returns-in-len1-up-line t c =
     let key = c.args.key.now in
     let line = c.args.line.now in
-    c.value-behind.ensures
+    c.value_behind.ensures
     ∙ ap (λ k. behind k (take (length line - 1) (drop 1 line))) (take_rest key 1)
     ∙ ap (behind (drop 1 key)) (take_rest line 1)
-    ∙ sym (behind_more key line (sym c.begin-alike.ensures ∙ c.if-begin-alike.true))
+    ∙ sym (behind_more key line (sym c.begin_alike.ensures ∙ c.if-begin_alike.true))
