@@ -14,10 +14,7 @@ invariant_of-result c =
     let h = c.args.self.now in
     let p = c.args.period in
     let is = c.common_multiple-micros.ensures.value in
-    let fits = in_range p (omega arith) (omega arith) in (
-      omega (arith, lcm_pos h.micros p h.positive (omega arith)),
-      (omega arith, (subst (λ n. ∥ OfPeriods n ∥₁) (sym is) (∥∥₁_map h.made (with_period h.micros p fits)), tt)),
-    )
+    let fits = in_range p (omega arith) (omega arith) in record { positive = omega (arith, lcm_pos h.micros p h.positive (omega arith)); short = omega arith; made = subst (λ n. ∥ OfPeriods n ∥₁) (sym is) (∥∥₁_map h.made (with_period h.micros p fits)) }
 
 pub returns : goal.returns
 returns c =

@@ -11,7 +11,7 @@ pub invariant_of-result : goal.invariant_of-result
 invariant_of-result c =
     let levels = levels_judged c.args.levels.now (omega arith) (omega arith) c.if-not-each_level_fits.ensures c.if-not-each_level_rises.ensures in
     let standby = standby_judged c.args.standby.now (omega arith) c.if-not-each_at_most.ensures in
-    (omega arith, (omega arith, (ap levels_fit c.in_eight.ensures ∙ levels, (ap standby_fits c.in_eight-2.ensures ∙ standby, tt))))
+    record { few_levels = omega arith; few_devices = omega arith; levels_fit = ap levels_fit c.in_eight.ensures ∙ levels; standby_fits = ap standby_fits c.in_eight-2.ensures ∙ standby }
 
 pub returns : goal.returns
 returns c =

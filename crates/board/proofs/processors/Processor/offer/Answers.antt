@@ -55,7 +55,7 @@ invariant_of-result c =
     let belong : belongs (processor_figures p) (task_figures t) h.micros ≡ true = sym (c.if-not-belongs.ensures ∙ ap (belongs (processor_figures p) (task_figures t)) c.micros.ensures) in
     let parts = and_parts (eqb (length (task_figures t).shares) (length (processor_figures p).standby)) (counts_in h.micros t.due) belong in
     let here = offered_here p t h.micros l c.args.number (eqb-true _ _ parts.0) parts.1 h.short h.made (there c.levels-levels.result.now _ c.args.number _ c.levels-levels.ensures (omega arith)) (sym c.if-not-is_offered.ensures) in
-    (subst (λ m. Offered m) (sym (c.measure.ensures ∙ ap (λ n. measure (processor_figures p) (task_figures t) n l) c.micros-2.ensures)) here, tt)
+    record { offered = subst (λ m. Offered m) (sym (c.measure.ensures ∙ ap (λ n. measure (processor_figures p) (task_figures t) n l) c.micros-2.ensures)) here }
 
 pub returns : goal.returns
 returns c =
