@@ -23,7 +23,7 @@ sum_grows m n c p = le→leb (m + c) (n + c) (omega (arith, leb→le m n p))
 -- the energy of n entries is at most n times the most that one entry has
 summed_energy : {n : ℕ} {c : Energy} → Sum energy n c → c.picojoules ≤ n * 6600000000000000
 summed_energy nothing = omega arith
-summed_energy (entry o) = omega (arith, bounds.energy-bound _ o)
+summed_energy (entry o) = omega (arith, bounds.energy_bound _ o)
 summed_energy (both s t) = omega (arith, summed_energy s, summed_energy t)
 
 -- so 64 bits hold a total

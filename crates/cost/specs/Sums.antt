@@ -6,13 +6,13 @@
 --   OrderKept k       one entry more keeps the order of two sums of fewer than 48 entries
 --   AnyOrder k        at most 48 entries have one total, whatever their order
 use Rattle.std.specs.Prelude.{◌≡◌, ℕ, ◌<◌, ◌≤◌, List, [], ◌∷◌, length, Some}
-use Rattle.std.specs.List.{AllByRecursion as All}
+use Rattle.std.specs.List.{AllByRecursion}
 use Rattle.board.specs.declared.measures.Measure.{Measure}
 use Rattle.board.specs.Measures.{Offered}
 use Rattle.cost.specs.Kinds.{Meaning, unless_declined, most_entries, Sum, NoDearer}
 
 abbrev pub Entries : {C : Type 0} → Meaning C → List C → Type 0
-Entries k es = All (Sum k 1) es
+Entries k es = AllByRecursion (Sum k 1) es
 
 abbrev pub total_of : {C : Type 0} → Meaning C → List C → C
 total_of k [] = k.none

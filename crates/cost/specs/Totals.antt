@@ -1,7 +1,7 @@
 -- What holds of the sums and totals of every kind.
 use Rattle.std.specs.Prelude.{◌≡◌, ℕ, suc, ◌+◌, ◌<◌, ◌≤◌, Bool, true, false, T, List, [], ◌∷◌, length, Some, refl}
 use Rattle.std.proofs.Common.{sym, ap, subst, ◌∙◌, ⊎_elim, arith, add-one}
-use Rattle.std.proofs.iter.runs.Lists.{none-some, same_Some}
+use Rattle.std.proofs.lemmas.Option.{none-some, same_Some}
 use Rattle.board.specs.declared.measures.Measure.{Measure}
 use Rattle.board.specs.Measures.{Offered}
 use Rattle.cost.specs.Kinds.{Meaning, unless_declined, most_entries, Sum, nothing, entry, both, Total, NoDearer, Laws}

@@ -2,7 +2,7 @@ use Rattle.jobtext.proofs.Cutting as cutting
 use Rattle.jobtext.proofs.readers.lines.line_length.Goals as goal
 
 pub loop-i-init : goal.loop-i-init
-loop-i-init c = cutting.at-start c.args.bytes.now
+loop-i-init c = cutting.at_start c.args.bytes.now
 
 pub returns-then-byte-eq10 : goal.returns-then-byte-eq10
 returns-then-byte-eq10 c = record { cut = cutting.found c.args.bytes.now c.loop-i.i c.loop-i-test.true c.if-byte-eq10.true c.loop-i.invariant; inside = c.loop-i-test.true }
