@@ -24,7 +24,7 @@ invariant_of-self c =
     let r = c.args.row.now in
     let ok : row_fits (listed_rows rs) r ≡ true = sym (c.if-not-row_fits.ensures ∙ ap (λ xs. row_fits xs r) c.rows.ensures) in
     let room : rs.count < length rs.rows = omega (arith, rs.places) in
-    (length-set rs.rows rs.count r ∙ rs.places, (omega arith, (ap rows_fit (take_more_set rs.rows rs.count r room) ∙ fit_push (listed_rows rs) r rs.fit ok, tt)))
+    record { places = length-set rs.rows rs.count r ∙ rs.places; few = omega arith; fit = ap rows_fit (take_more_set rs.rows rs.count r room) ∙ fit_push (listed_rows rs) r rs.fit ok }
 
 pub returns : goal.returns
 returns c =
