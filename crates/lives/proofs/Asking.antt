@@ -9,11 +9,11 @@ use Rattle.plans.specs.declared.figures.Figures.{Figures}
 use Rattle.plans.specs.Choices.{Row}
 use Rattle.plans.specs.Plans.{planned, list_after, levels_after}
 use Rattle.plans.specs.Promises.{Rows, Ports, Matched}
-use Rattle.tally.specs.Tally.{Tally, new_tally, Call}
+use Rattle.tally.specs.Tally.{Tally, new_tally}
 use Rattle.tally.specs.Boards.{Match}
 use Rattle.tally.specs.Books.{BookFigures, book_figures}
 use Rattle.tally.specs.Plans.{at_capacity, unless_declined, periodic_rows_of, sporadic_rows_of}
-use Rattle.tally.specs.Lent.{Lent, Leaves}
+use Rattle.tally.specs.Lent.{Lent, LentCall, Leaves}
 use Rattle.tally.specs.Promises.{Promised, Agree}
 use Rattle.tally.proofs.Rows.{periodic_fits, sporadic_fits, periodic_ports, sporadic_ports}
 use Rattle.tally.proofs.Periodic.{periodic_matched}
@@ -25,11 +25,11 @@ use Rattle.lives.specs.declared.calls.Question.TheVariants.{Plan, Trial}
 use Rattle.lives.specs.Lives.{lived, asked_book, asked_able, asked_answer, Life}
 
 -- a rule: the rows of its books, which are fit, can be planned, and tallies that match have matching rows
-pub record Rule {C : Type 0} (k : Meaning C) (rows_of_lem : BookFigures → List (Row C)) (Fit : BookFigures → Type 0) : Type 0 where
-  pub rows : (b : BookFigures) → Fit b → Rows k (rows_of_lem b)
-  pub ports : (b : BookFigures) → Fit b → Ports (rows_of_lem b)
+pub record Rule {C : Type 0} (k : Meaning C) (rows_of : BookFigures → List (Row C)) (Fit : BookFigures → Type 0) : Type 0 where
+  pub rows : (b : BookFigures) → Fit b → Rows k (rows_of b)
+  pub ports : (b : BookFigures) → Fit b → Ports (rows_of b)
   pub at : (b : BookFigures) (capacity : ℕ) → Fit b → Fit (at_capacity b capacity)
-  pub matched : (p : ProcessorFigures) (t u : Tally) → Match t u → Fit (book_figures p t) → Matched (rows_of_lem (book_figures p t)) (rows_of_lem (book_figures p u))
+  pub matched : (p : ProcessorFigures) (t u : Tally) → Match t u → Fit (book_figures p t) → Matched (rows_of (book_figures p t)) (rows_of (book_figures p u))
 
 pub periodic_rule : {C : Type 0} (k : Meaning C) → Rule k (periodic_rows_of k) PeriodicFit
 periodic_rule k = record {
@@ -47,14 +47,14 @@ sporadic_rule k = record {
   matched = λ p t u m fit. sporadic_matched k p t u m;
 }
 
-module _ {C : Type 0} (k : Meaning C) (laws : Laws k) (rows_of_lem : BookFigures → List (Row C)) (Fit : BookFigures → Type 0) (rule : Rule k rows_of_lem Fit) where
-  plan_promised : (b : BookFigures) → Fit b → (room buffer : ℕ) (found : List ℕ) → Promised k (rows_of_lem b) (48 ≤ buffer) (planned k room buffer (rows_of_lem b)) (levels_after k (rows_of_lem b) (planned k room buffer (rows_of_lem b)) found)
-  plan_promised b fit room buffer found = promised k laws (rows_of_lem b) (rule.rows b fit) (rule.ports b fit) room buffer found
+module _ {C : Type 0} (k : Meaning C) (laws : Laws k) (rows_of : BookFigures → List (Row C)) (Fit : BookFigures → Type 0) (rule : Rule k rows_of Fit) where
+  plan_promised : (b : BookFigures) → Fit b → (room buffer : ℕ) (found : List ℕ) → Promised k (rows_of b) (48 ≤ buffer) (planned k room buffer (rows_of b)) (levels_after k (rows_of b) (planned k room buffer (rows_of b)) found)
+  plan_promised b fit room buffer found = promised k laws (rows_of b) (rule.rows b fit) (rule.ports b fit) room buffer found
 
   -- the table declines the trial's capacity, or it is planned
   trial_promised : (b : BookFigures) → Fit b → (room buffer : ℕ) (found : List ℕ) (x : Bool) →
-      let r = unless_declined (cond (not x) (Some BadSetting) None) (planned k room buffer (rows_of_lem b)) in
-      Promised k (rows_of_lem b) ((48 ≤ buffer) × (x ≡ true)) r (levels_after k (rows_of_lem b) r found)
+      let r = unless_declined (cond (not x) (Some BadSetting) None) (planned k room buffer (rows_of b)) in
+      Promised k (rows_of b) ((48 ≤ buffer) × (x ≡ true)) r (levels_after k (rows_of b) r found)
   trial_promised b fit room buffer found true = let x = plan_promised b fit room buffer found in record { given = x.given; none_fits = λ a. x.none_fits a.0; only_then = λ a. x.only_then a.0 }
   trial_promised b fit room buffer found false = record {
     given = λ f e. absurd (let z : ◌≡◌ {A = ℕ} 0 1 = cc in omega arith);
@@ -63,53 +63,53 @@ module _ {C : Type 0} (k : Meaning C) (laws : Laws k) (rows_of_lem : BookFigures
   }
 
   asked_promised : (b : BookFigures) → Fit b → (q : Question) (room buffer : ℕ) (found : List ℕ) →
-      Promised k (rows_of_lem (asked_book b q)) (asked_able q buffer) (asked_answer k rows_of_lem b q room buffer) (levels_after k (rows_of_lem (asked_book b q)) (asked_answer k rows_of_lem b q room buffer) found)
+      Promised k (rows_of (asked_book b q)) (asked_able q buffer) (asked_answer k rows_of b q room buffer) (levels_after k (rows_of (asked_book b q)) (asked_answer k rows_of b q room buffer) found)
   asked_promised b fit Plan room buffer found = plan_promised b fit room buffer found
   asked_promised b fit (Trial capacity) room buffer found = trial_promised (at_capacity b capacity) (rule.at b capacity fit) room buffer found (between 1 1000 capacity)
 
   -- two books of matching tallies
   module _ (set : IsSet C) (p : ProcessorFigures) (room buffer room' buffer' : ℕ) where
-    plans_agree : (t u : Tally) → Match t u → Fit (book_figures p t) → Fit (book_figures p u) → Agree (planned k room buffer (rows_of_lem (book_figures p t))) (planned k room' buffer' (rows_of_lem (book_figures p u)))
-    plans_agree t u m fit fit' = agree k laws set (rows_of_lem (book_figures p t)) (rows_of_lem (book_figures p u)) (rule.rows (book_figures p t) fit) (rule.rows (book_figures p u) fit') (rule.matched p t u m fit) room buffer room' buffer'
+    plans_agree : (t u : Tally) → Match t u → Fit (book_figures p t) → Fit (book_figures p u) → Agree (planned k room buffer (rows_of (book_figures p t))) (planned k room' buffer' (rows_of (book_figures p u)))
+    plans_agree t u m fit fit' = agree k laws set (rows_of (book_figures p t)) (rows_of (book_figures p u)) (rule.rows (book_figures p t) fit) (rule.rows (book_figures p u) fit') (rule.matched p t u m fit) room buffer room' buffer'
 
     unless_agree : (x : Bool) (r s : Result (Figures C) Fault) → Agree r s → Agree (unless_declined (cond (not x) (Some BadSetting) None) r) (unless_declined (cond (not x) (Some BadSetting) None) s)
     unless_agree true r s a f g e h = a f g e h
     unless_agree false r s a f g e h = absurd (let z : ◌≡◌ {A = ℕ} 0 1 = cc in omega arith)
 
-    asked_agree : (t u : Tally) → Match t u → (q : Question) → Fit (book_figures p t) → Fit (book_figures p u) → Agree (asked_answer k rows_of_lem (book_figures p t) q room buffer) (asked_answer k rows_of_lem (book_figures p u) q room' buffer')
+    asked_agree : (t u : Tally) → Match t u → (q : Question) → Fit (book_figures p t) → Fit (book_figures p u) → Agree (asked_answer k rows_of (book_figures p t) q room buffer) (asked_answer k rows_of (book_figures p u) q room' buffer')
     asked_agree t u m Plan fit fit' = plans_agree t u m fit fit'
     asked_agree t u m (Trial capacity) fit fit' =
         let b = book_figures p t in
         let c = book_figures p u in
-        unless_agree (between 1 1000 capacity) (planned k room buffer (rows_of_lem (at_capacity b capacity))) (planned k room' buffer' (rows_of_lem (at_capacity c capacity)))
+        unless_agree (between 1 1000 capacity) (planned k room buffer (rows_of (at_capacity b capacity))) (planned k room' buffer' (rows_of (at_capacity c capacity)))
         (plans_agree (at_capacity b capacity).tally (at_capacity c capacity).tally (record { capacity = refl; clock = m.clock; tasks = m.tasks }) (rule.at b capacity fit) (rule.at c capacity fit'))
 
-  module _ (p : ProcessorFigures) (calls : List Call) (q : Question) (lent : Lent C) (book : BookFigures) (r : Result (Figures C) Fault) (left : Lent C) where
+  module _ (p : ProcessorFigures) (calls : List LentCall) (q : Question) (lent : Lent C) (book : BookFigures) (r : Result (Figures C) Fault) (left : Lent C) where
     -- a book that has followed the calls, and is then asked
-    pub whole_life : (before : BookFigures) → Fit before → before ≡ lived p calls → book ≡ before → (found : Lent C) → Leaves k rows_of_lem (book_figures p new_tally) calls lent found →
+    pub whole_life : (before : BookFigures) → Fit before → before ≡ lived p calls → book ≡ before → (found : Lent C) → Leaves k rows_of (book_figures p new_tally) calls lent found →
         length found.list ≡ length lent.list → length found.levels ≡ length lent.levels →
-        r ≡ asked_answer k rows_of_lem before q (length found.list) (length found.levels) → left.list ≡ list_after k (rows_of_lem (asked_book before q)) r found.list left.list → left.levels ≡ levels_after k (rows_of_lem (asked_book before q)) r found.levels →
-        Life k rows_of_lem p calls q lent book r left
+        r ≡ asked_answer k rows_of before q (length found.list) (length found.levels) → left.list ≡ list_after k (rows_of (asked_book before q)) r found.list left.list → left.levels ≡ levels_after k (rows_of (asked_book before q)) r found.levels →
+        Life k rows_of p calls q lent book r left
     whole_life before fit is same found followed places bytes answer listed leveled =
         let b = lived p calls in
-        let rows = rows_of_lem (asked_book b q) in
+        let rows = rows_of (asked_book b q) in
         let room = length lent.list in
         let buffer = length lent.levels in
-        let defined = asked_answer k rows_of_lem b q room buffer in
-        let answered : r ≡ defined = answer ∙ ap (λ x. asked_answer k rows_of_lem x q (length found.list) (length found.levels)) is ∙ ap (λ n. asked_answer k rows_of_lem b q n (length found.levels)) places ∙ ap (λ n. asked_answer k rows_of_lem b q room n) bytes in
-        let levels_are : left.levels ≡ levels_after k rows r found.levels = leveled ∙ ap (λ x. levels_after k (rows_of_lem (asked_book x q)) r found.levels) is in
+        let defined = asked_answer k rows_of b q room buffer in
+        let answered : r ≡ defined = answer ∙ ap (λ x. asked_answer k rows_of x q (length found.list) (length found.levels)) is ∙ ap (λ n. asked_answer k rows_of b q n (length found.levels)) places ∙ ap (λ n. asked_answer k rows_of b q room n) bytes in
+        let levels_are : left.levels ≡ levels_after k rows r found.levels = leveled ∙ ap (λ x. levels_after k (rows_of (asked_book x q)) r found.levels) is in
         record {
           stands = same ∙ is;
           found = found;
           followed = followed;
           answered = answered;
           promised = subst (λ s. Promised k rows (asked_able q buffer) s left.levels) (sym answered) (subst (λ ls. Promised k rows (asked_able q buffer) defined ls) (sym (levels_are ∙ ap (λ s. levels_after k rows s found.levels) answered)) (asked_promised b (subst Fit is fit) q room buffer found.levels));
-          list = listed ∙ ap (λ x. list_after k (rows_of_lem (asked_book x q)) r found.list left.list) is;
+          list = listed ∙ ap (λ x. list_after k (rows_of (asked_book x q)) r found.list left.list) is;
           levels = levels_are;
         }
 
     -- and another
-    pub lives_agree : IsSet C → Life k rows_of_lem p calls q lent book r left → Fit book → (others : List Call) (other_lent : Lent C) (other_book : BookFigures) (s : Result (Figures C) Fault) (other_left : Lent C) →
-        Life k rows_of_lem p others q other_lent other_book s other_left → Fit other_book → Match (lived p calls).tally (lived p others).tally → Agree r s
+    pub lives_agree : IsSet C → Life k rows_of p calls q lent book r left → Fit book → (others : List LentCall) (other_lent : Lent C) (other_book : BookFigures) (s : Result (Figures C) Fault) (other_left : Lent C) →
+        Life k rows_of p others q other_lent other_book s other_left → Fit other_book → Match (lived p calls).tally (lived p others).tally → Agree r s
     lives_agree set one fit others other_lent other_book s other_left other fit' m f g e h =
         asked_agree set p (length lent.list) (length lent.levels) (length other_lent.list) (length other_lent.levels) (lived p calls).tally (lived p others).tally m q (subst Fit one.stands fit) (subst Fit other.stands fit') f g (sym one.answered ∙ e) (sym other.answered ∙ h)

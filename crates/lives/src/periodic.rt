@@ -2,12 +2,11 @@
 ghost use Rattle.std.specs.Prelude.{◌≡◌, map, length};
 ghost use Rattle.board.specs.Views.{processor_figures};
 ghost use Rattle.plans.specs.Plans.{list_after, levels_after};
-ghost use Rattle.tally.specs.Tally.{new_tally, plan as planning, trial as trying};
+ghost use Rattle.tally.specs.Tally.{new_tally, trial as trying};
 ghost use Rattle.tally.specs.Plans.{periodic_rows_of};
 ghost use Rattle.tally.specs.Books.{book_figures, after};
-ghost use Rattle.tally.specs.Steps.{life};
 ghost use Rattle.tally.specs.Boards.{Match};
-ghost use Rattle.tally.specs.Lent.{lent, lent_after, Leaves};
+ghost use Rattle.tally.specs.Lent.{lent, lent_plan, lent_trial, lent_after, Leaves};
 ghost use Rattle.tally.specs.Promises.{Agree};
 ghost use Rattle.book.specs.Views.{periodic_figures};
 ghost use Rattle.lives.specs.Calls.{periodic_call};
@@ -29,7 +28,7 @@ fn plan_in<K: Kind>(
     list: &mut [State<K>],
     levels: &mut [u8],
 )
-    ensures { lent list.new levels.new ≡ lent_after K.Kind.meaning (periodic_rows_of K.Kind.meaning) (periodic_figures book.now) (planning places bytes) (lent list.old levels.old) (lent list.new levels.new) }
+    ensures { lent list.new levels.new ≡ lent_after K.Kind.meaning (periodic_rows_of K.Kind.meaning) (periodic_figures book.now) (lent_plan places bytes) (lent list.old levels.old) (lent list.new levels.new) }
 {
     let places = places.min(list.len());
     let bytes = bytes.min(levels.len());
@@ -45,8 +44,8 @@ fn trial_in<K: Kind>(
     list: &mut [State<K>],
     levels: &mut [u8],
 )
-    ensures book { periodic_figures book.new ≡ after (periodic_figures book.old) (trying thousandths places bytes) }
-    ensures left { lent list.new levels.new ≡ lent_after K.Kind.meaning (periodic_rows_of K.Kind.meaning) (periodic_figures book.old) (trying thousandths places bytes) (lent list.old levels.old) (lent list.new levels.new) }
+    ensures book { periodic_figures book.new ≡ after (periodic_figures book.old) (trying thousandths) }
+    ensures left { lent list.new levels.new ≡ lent_after K.Kind.meaning (periodic_rows_of K.Kind.meaning) (periodic_figures book.old) (lent_trial thousandths places bytes) (lent list.old levels.old) (lent list.new levels.new) }
 {
     let places = places.min(list.len());
     let bytes = bytes.min(levels.len());
@@ -60,7 +59,7 @@ fn follow<K: Kind>(
     list: &mut [State<K>],
     levels: &mut [u8],
 )
-    ensures book { periodic_figures book.new ≡ after (periodic_figures book.old) (periodic_call call.now) }
+    ensures book { periodic_figures book.new ≡ after (periodic_figures book.old) (periodic_call call.now).call }
     ensures left { lent list.new levels.new ≡ lent_after K.Kind.meaning (periodic_rows_of K.Kind.meaning) (periodic_figures book.old) (periodic_call call.now) (lent list.old levels.old) (lent list.new levels.new) }
 {
     match call {
@@ -186,7 +185,7 @@ pub fn lives<K: Kind>(
 ) -> PeriodicLives<K>
     ensures first { Life K.Kind.meaning (periodic_rows_of K.Kind.meaning) (processor_figures processor.now) (map periodic_call calls.now) question (lent list.old levels.old) (periodic_figures result.first.book) result.first.plan (lent list.new levels.new) }
     ensures second { Life K.Kind.meaning (periodic_rows_of K.Kind.meaning) (processor_figures processor.now) (map periodic_call others.now) question (lent other_list.old other_levels.old) (periodic_figures result.second.book) result.second.plan (lent other_list.new other_levels.new) }
-    ensures renumbered { Match (life (processor_figures processor.now) (map periodic_call calls.now)) (life (processor_figures processor.now) (map periodic_call others.now)) → Agree result.first.plan result.second.plan }
+    ensures renumbered { Match (lived (processor_figures processor.now) (map periodic_call calls.now)).tally (lived (processor_figures processor.now) (map periodic_call others.now)).tally → Agree result.first.plan result.second.plan }
 {
     live_twice(
         processor,

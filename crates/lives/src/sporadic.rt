@@ -1,12 +1,11 @@
 // Whole lives of sporadic books.
 ghost use Rattle.std.specs.Prelude.{◌≡◌, map};
 ghost use Rattle.board.specs.Views.{processor_figures};
-ghost use Rattle.tally.specs.Tally.{new_tally, plan as planning};
+ghost use Rattle.tally.specs.Tally.{new_tally};
 ghost use Rattle.tally.specs.Plans.{sporadic_rows_of};
 ghost use Rattle.tally.specs.Books.{book_figures, after};
-ghost use Rattle.tally.specs.Steps.{life};
 ghost use Rattle.tally.specs.Boards.{Match};
-ghost use Rattle.tally.specs.Lent.{lent, lent_after, Leaves};
+ghost use Rattle.tally.specs.Lent.{lent, lent_plan, lent_after, Leaves};
 ghost use Rattle.tally.specs.Promises.{Agree};
 ghost use Rattle.book.specs.Views.{sporadic_figures};
 ghost use Rattle.lives.specs.declared.calls.Question.TheVariants.{Plan};
@@ -29,7 +28,7 @@ fn plan_in<K: Kind>(
     list: &mut [State<K>],
     levels: &mut [u8],
 )
-    ensures { lent list.new levels.new ≡ lent_after K.Kind.meaning (sporadic_rows_of K.Kind.meaning) (sporadic_figures book.now) (planning places bytes) (lent list.old levels.old) (lent list.new levels.new) }
+    ensures { lent list.new levels.new ≡ lent_after K.Kind.meaning (sporadic_rows_of K.Kind.meaning) (sporadic_figures book.now) (lent_plan places bytes) (lent list.old levels.old) (lent list.new levels.new) }
 {
     let places = places.min(list.len());
     let bytes = bytes.min(levels.len());
@@ -43,7 +42,7 @@ fn follow<K: Kind>(
     list: &mut [State<K>],
     levels: &mut [u8],
 )
-    ensures book { sporadic_figures book.new ≡ after (sporadic_figures book.old) (sporadic_call call.now) }
+    ensures book { sporadic_figures book.new ≡ after (sporadic_figures book.old) (sporadic_call call.now).call }
     ensures left { lent list.new levels.new ≡ lent_after K.Kind.meaning (sporadic_rows_of K.Kind.meaning) (sporadic_figures book.old) (sporadic_call call.now) (lent list.old levels.old) (lent list.new levels.new) }
 {
     match call {
@@ -146,7 +145,7 @@ pub fn lives<K: Kind>(
 ) -> SporadicLives<K>
     ensures first { Life K.Kind.meaning (sporadic_rows_of K.Kind.meaning) (processor_figures processor.now) (map sporadic_call calls.now) Plan (lent list.old levels.old) (sporadic_figures result.first.book) result.first.plan (lent list.new levels.new) }
     ensures second { Life K.Kind.meaning (sporadic_rows_of K.Kind.meaning) (processor_figures processor.now) (map sporadic_call others.now) Plan (lent other_list.old other_levels.old) (sporadic_figures result.second.book) result.second.plan (lent other_list.new other_levels.new) }
-    ensures renumbered { Match (life (processor_figures processor.now) (map sporadic_call calls.now)) (life (processor_figures processor.now) (map sporadic_call others.now)) → Agree result.first.plan result.second.plan }
+    ensures renumbered { Match (lived (processor_figures processor.now) (map sporadic_call calls.now)).tally (lived (processor_figures processor.now) (map sporadic_call others.now)).tally → Agree result.first.plan result.second.plan }
 {
     live_twice(
         processor,

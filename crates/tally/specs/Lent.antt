@@ -4,6 +4,9 @@
 --       what a plan of the rows leaves if it is made in the first `places` places of the list and the first `bytes` bytes of the buffer,
 --       or in all of them where fewer are lent: that part as planning leaves it, and the rest as found. A plan that is `declined`
 --       beforehand leaves all as found; after 33 the part of the list holds whatever was `left`
+--   LentCall               a call, with the places of the list and the bytes of the buffer that it may use, if it is a plan or a trial
+--   in_none call           a call that uses nothing of what is lent
+--   lent_plan places bytes, lent_trial capacity places bytes    a plan, and a trial at this capacity, in so many places and bytes
 --   lent_after b call found left    what the call leaves, made of the book b: all as found, unless it is a plan or a trial
 --   Leaves b calls found left       a book b that follows the calls leaves `left`: each call, made of the book that the calls before it
 --       left, leaves exactly that of what those left. The list stays as long as it is
@@ -32,16 +35,33 @@ planned_in k declined rows places bytes found left =
     let r = unless_declined declined (planned k (length list) (length levels) rows) in
     lent (list_after k rows r list (take places left.list) ++ drop places found.list) (levels_after k rows r levels ++ drop bytes found.levels)
 
-module _ {C : Type 0} (k : Meaning C) (rows_of_lem : BookFigures → List (Row C)) where
-  abbrev pub lent_after : BookFigures → Call → Lent C → Lent C → Lent C
-  lent_after b (plan places bytes) found left = planned_in k None (rows_of_lem b) places bytes found left
-  lent_after b (trial capacity places bytes) found left = planned_in k (refused b.processor b.tally (trial capacity places bytes)) (rows_of_lem (at_capacity b capacity)) places bytes found left
-  lent_after b (admit port task) found left = found
-  lent_after b (retire port) found left = found
-  lent_after b (serve port cycles) found left = found
-  lent_after b (set_capacity capacity) found left = found
-  lent_after b (set_clock clock) found left = found
+pub record LentCall : Type 0 where
+  pub call : Call
+  pub places : ℕ
+  pub bytes : ℕ
 
-  abbrev pub Leaves : BookFigures → List Call → Lent C → Lent C → Type 0
+abbrev pub in_none : Call → LentCall
+in_none call = record { call = call; places = 0; bytes = 0 }
+
+abbrev pub lent_plan : ℕ → ℕ → LentCall
+lent_plan places bytes = record { call = plan; places = places; bytes = bytes }
+
+abbrev pub lent_trial : ℕ → ℕ → ℕ → LentCall
+lent_trial capacity places bytes = record { call = trial capacity; places = places; bytes = bytes }
+
+module _ {C : Type 0} (k : Meaning C) (rows_of : BookFigures → List (Row C)) where
+  abbrev pub left_by : BookFigures → Call → ℕ → ℕ → Lent C → Lent C → Lent C
+  left_by b plan places bytes found left = planned_in k None (rows_of b) places bytes found left
+  left_by b (trial capacity) places bytes found left = planned_in k (refused b.processor b.tally (trial capacity)) (rows_of (at_capacity b capacity)) places bytes found left
+  left_by b (admit port task) places bytes found left = found
+  left_by b (retire port) places bytes found left = found
+  left_by b (serve port cycles) places bytes found left = found
+  left_by b (set_capacity capacity) places bytes found left = found
+  left_by b (set_clock clock) places bytes found left = found
+
+  abbrev pub lent_after : BookFigures → LentCall → Lent C → Lent C → Lent C
+  lent_after b c found left = left_by b c.call c.places c.bytes found left
+
+  abbrev pub Leaves : BookFigures → List LentCall → Lent C → Lent C → Type 0
   Leaves b [] found left = left ≡ found
-  Leaves b (call ∷ calls) found left = (next : Lent C) × (next ≡ lent_after b call found next) × (length next.list ≡ length found.list) × Leaves (after b call) calls next left
+  Leaves b (c ∷ cs) found left = (next : Lent C) × (next ≡ lent_after b c found next) × (length next.list ≡ length found.list) × Leaves (after b c.call) cs next left

@@ -15,7 +15,7 @@ returns-in-Trial g c =
     let is = sym c.in-Trial.is in
     record {
       answer = c.trial.ensures.answer ∙ ap (λ q. asked_answer k (periodic_rows_of k) b q room buffer) is;
-      book = c.trial.ensures.book ∙ trial_stays b c.in-Trial.thousandths room buffer;
+      book = c.trial.ensures.book ∙ trial_stays b c.in-Trial.thousandths;
       list = c.trial.ensures.list ∙ ap (λ q. list_after k (periodic_rows_of k (asked_book b q)) c.trial.result c.args.list.now c.trial.new.list) is;
       levels = c.trial.ensures.levels ∙ ap (λ q. levels_after k (periodic_rows_of k (asked_book b q)) c.trial.result c.args.levels.now) is;
     }
