@@ -26,7 +26,7 @@ use Rattle.book.specs.declared.calls.Question.TheVariants.{Plan, Trial}
 use Rattle.book.specs.declared.periodic.PeriodicBook.{PeriodicBook}
 use Rattle.book.specs.declared.sporadic.SporadicBook.{SporadicBook}
 use Rattle.book.specs.Views.{periodic_figures, sporadic_figures}
-use Rattle.book.specs.Lives.{lived, asked_book, asked_able, asked_answer, PeriodicLife, SporadicLife}
+use Rattle.book.specs.Lives.{lived, asked_book, asked_able, asked_answer, LifeOfPeriodic, LifeOfSporadic}
 use Rattle.book.proofs.ByPort.{processor_good}
 use Rattle.book.proofs.Fitting.{Fit, PeriodicFit, SporadicFit}
 
@@ -88,7 +88,7 @@ module _ {C : Type 0} (k : Meaning C) (laws : Laws k) where
     levels_by : (rows : List (Row C)) (able : Type 0) (defined : Result (Figures C) Fault) → r ≡ defined → levels ≡ levels_after k rows r levels_found → Promised k rows able defined (levels_after k rows defined levels_found) → Promised k rows able r levels
     levels_by rows able defined e l x = subst (λ s. Promised k rows able s levels) (sym e) (subst (λ ls. Promised k rows able defined ls) (sym (l ∙ ap (λ s. levels_after k rows s levels_found) e)) x)
 
-    pub periodic_lived : (q : Question) → PeriodicFit before → r ≡ asked_answer k before q (length list_found) (length levels_found) → list ≡ list_after k (periodic_rows_of k (asked_book before q)) r list_found list → levels ≡ levels_after k (periodic_rows_of k (asked_book before q)) r levels_found → PeriodicLife k p calls q room buffer after r list levels
+    pub periodic_lived : (q : Question) → PeriodicFit before → r ≡ asked_answer k before q (length list_found) (length levels_found) → list ≡ list_after k (periodic_rows_of k (asked_book before q)) r list_found list → levels ≡ levels_after k (periodic_rows_of k (asked_book before q)) r levels_found → LifeOfPeriodic k p calls q room buffer after r list levels
     periodic_lived q fit answer listed leveled =
         let b = lived p calls in
         let rows = periodic_rows_of k (asked_book b q) in
@@ -108,7 +108,7 @@ module _ {C : Type 0} (k : Meaning C) (laws : Laws k) where
           };
         }
 
-    pub sporadic_lived : SporadicFit before → r ≡ sporadic_plan k before (length list_found) (length levels_found) → list ≡ list_after k (sporadic_rows_of k before) r list_found list → levels ≡ levels_after k (sporadic_rows_of k before) r levels_found → SporadicLife k p calls room buffer after r list levels
+    pub sporadic_lived : SporadicFit before → r ≡ sporadic_plan k before (length list_found) (length levels_found) → list ≡ list_after k (sporadic_rows_of k before) r list_found list → levels ≡ levels_after k (sporadic_rows_of k before) r levels_found → LifeOfSporadic k p calls room buffer after r list levels
     sporadic_lived fit answer listed leveled =
         let b = lived p calls in
         let rows = sporadic_rows_of k b in

@@ -3,10 +3,10 @@
 --   asked_book b q               the book as the question takes it: a trial is at its own capacity
 --   asked_answer k b q room buffer   what a periodic book answers to the question
 --   asked_able q                 a trial's capacity is in range
---   PeriodicLife k p calls q room buffer book r list levels
+--   LifeOfPeriodic k p calls q room buffer book r list levels
 --       the life of a periodic book of p: the book after the calls, asked with a list of `room` places and a levels buffer of
 --       `buffer` bytes, stands as its tally says, and answers r as defined on that tally, with all that is promised of r
---   SporadicLife                the same of a sporadic book, asked for a plan
+--   LifeOfSporadic                the same of a sporadic book, asked for a plan
 use Rattle.std.specs.Prelude.{◌≡◌, ℕ, ◌≤◌, Bool, true, List, Result}
 use Rattle.board.specs.declared.faults.Fault.{Fault}
 use Rattle.board.specs.Processors.{ProcessorFigures, between}
@@ -36,13 +36,13 @@ abbrev pub asked_answer : {C : Type 0} → Meaning C → BookFigures → Questio
 asked_answer k b Plan room buffer = periodic_plan k b room buffer
 asked_answer k b (Trial capacity) room buffer = periodic_trial k b capacity room buffer
 
-pub record PeriodicLife {C : Type 0} (k : Meaning C) (p : ProcessorFigures) (calls : List Call) (q : Question) (room buffer : ℕ) (book : BookFigures) (r : Result (Figures C) Fault) (list : List (State C)) (levels : List ℕ) : Type 0 where
+pub record LifeOfPeriodic {C : Type 0} (k : Meaning C) (p : ProcessorFigures) (calls : List Call) (q : Question) (room buffer : ℕ) (book : BookFigures) (r : Result (Figures C) Fault) (list : List (State C)) (levels : List ℕ) : Type 0 where
   pub stands : book ≡ lived p calls
   pub answered : r ≡ asked_answer k (lived p calls) q room buffer
   pub promised : Promised k (periodic_rows_of k (asked_book (lived p calls) q)) ((48 ≤ buffer) × (asked_able q ≡ true)) r levels
   pub left : Left k (periodic_rows_of k (asked_book (lived p calls) q)) room buffer r list levels
 
-pub record SporadicLife {C : Type 0} (k : Meaning C) (p : ProcessorFigures) (calls : List Call) (room buffer : ℕ) (book : BookFigures) (r : Result (Figures C) Fault) (list : List (State C)) (levels : List ℕ) : Type 0 where
+pub record LifeOfSporadic {C : Type 0} (k : Meaning C) (p : ProcessorFigures) (calls : List Call) (room buffer : ℕ) (book : BookFigures) (r : Result (Figures C) Fault) (list : List (State C)) (levels : List ℕ) : Type 0 where
   pub stands : book ≡ lived p calls
   pub answered : r ≡ sporadic_plan k (lived p calls) room buffer
   pub promised : Promised k (sporadic_rows_of k (lived p calls)) (48 ≤ buffer) r levels

@@ -9,7 +9,7 @@ ghost use Rattle.tally.specs.Boards.{Match};
 ghost use Rattle.tally.specs.Promises.{Agree};
 ghost use Rattle.book.specs.Views.{periodic_figures};
 ghost use Rattle.book.specs.Calls.{periodic_call};
-ghost use Rattle.book.specs.Lives.{asked_book, asked_answer, PeriodicLife};
+ghost use Rattle.book.specs.Lives.{asked_book, asked_answer, LifeOfPeriodic};
 
 use super::PeriodicBook;
 use crate::calls::{PeriodicCall, Question};
@@ -107,7 +107,7 @@ pub fn live<K: Kind>(
     list: &mut [State<K>],
     levels: &mut [u8],
 ) -> PeriodicLife<K>
-    ensures { PeriodicLife K.Kind.meaning (processor_figures processor.now) (map periodic_call calls.now) question (length list.old) (length levels.old) (periodic_figures result.book) result.plan list.new levels.new }
+    ensures { LifeOfPeriodic K.Kind.meaning (processor_figures processor.now) (map periodic_call calls.now) question (length list.old) (length levels.old) (periodic_figures result.book) result.plan list.new levels.new }
 {
     let mut book = book_after(processor, calls, list, levels);
     let plan = book.ask(question, list, levels);
@@ -126,8 +126,8 @@ pub fn lives<K: Kind>(
     other_list: &mut [State<K>],
     other_levels: &mut [u8],
 ) -> PeriodicLives<K>
-    ensures first { PeriodicLife K.Kind.meaning (processor_figures processor.now) (map periodic_call calls.now) question (length list.old) (length levels.old) (periodic_figures result.first.book) result.first.plan list.new levels.new }
-    ensures second { PeriodicLife K.Kind.meaning (processor_figures processor.now) (map periodic_call others.now) question (length other_list.old) (length other_levels.old) (periodic_figures result.second.book) result.second.plan other_list.new other_levels.new }
+    ensures first { LifeOfPeriodic K.Kind.meaning (processor_figures processor.now) (map periodic_call calls.now) question (length list.old) (length levels.old) (periodic_figures result.first.book) result.first.plan list.new levels.new }
+    ensures second { LifeOfPeriodic K.Kind.meaning (processor_figures processor.now) (map periodic_call others.now) question (length other_list.old) (length other_levels.old) (periodic_figures result.second.book) result.second.plan other_list.new other_levels.new }
     ensures renumbered { Match (life (processor_figures processor.now) (map periodic_call calls.now)) (life (processor_figures processor.now) (map periodic_call others.now)) → Agree result.first.plan result.second.plan }
 {
     let first = live(processor, calls, question, list, levels);

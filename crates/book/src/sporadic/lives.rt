@@ -7,7 +7,7 @@ ghost use Rattle.tally.specs.Boards.{Match};
 ghost use Rattle.tally.specs.Promises.{Agree};
 ghost use Rattle.book.specs.Views.{sporadic_figures};
 ghost use Rattle.book.specs.Calls.{sporadic_call};
-ghost use Rattle.book.specs.Lives.{SporadicLife};
+ghost use Rattle.book.specs.Lives.{LifeOfSporadic};
 
 use super::SporadicBook;
 use crate::calls::SporadicCall;
@@ -86,7 +86,7 @@ pub fn live<K: Kind>(
     list: &mut [State<K>],
     levels: &mut [u8],
 ) -> SporadicLife<K>
-    ensures { SporadicLife K.Kind.meaning (processor_figures processor.now) (map sporadic_call calls.now) (length list.old) (length levels.old) (sporadic_figures result.book) result.plan list.new levels.new }
+    ensures { LifeOfSporadic K.Kind.meaning (processor_figures processor.now) (map sporadic_call calls.now) (length list.old) (length levels.old) (sporadic_figures result.book) result.plan list.new levels.new }
 {
     let book = book_after(processor, calls, list, levels);
     let plan = book.plan(list, levels);
@@ -104,8 +104,8 @@ pub fn lives<K: Kind>(
     other_list: &mut [State<K>],
     other_levels: &mut [u8],
 ) -> SporadicLives<K>
-    ensures first { SporadicLife K.Kind.meaning (processor_figures processor.now) (map sporadic_call calls.now) (length list.old) (length levels.old) (sporadic_figures result.first.book) result.first.plan list.new levels.new }
-    ensures second { SporadicLife K.Kind.meaning (processor_figures processor.now) (map sporadic_call others.now) (length other_list.old) (length other_levels.old) (sporadic_figures result.second.book) result.second.plan other_list.new other_levels.new }
+    ensures first { LifeOfSporadic K.Kind.meaning (processor_figures processor.now) (map sporadic_call calls.now) (length list.old) (length levels.old) (sporadic_figures result.first.book) result.first.plan list.new levels.new }
+    ensures second { LifeOfSporadic K.Kind.meaning (processor_figures processor.now) (map sporadic_call others.now) (length other_list.old) (length other_levels.old) (sporadic_figures result.second.book) result.second.plan other_list.new other_levels.new }
     ensures renumbered { Match (life (processor_figures processor.now) (map sporadic_call calls.now)) (life (processor_figures processor.now) (map sporadic_call others.now)) → Agree result.first.plan result.second.plan }
 {
     let first = live(processor, calls, list, levels);

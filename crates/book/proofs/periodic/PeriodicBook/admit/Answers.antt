@@ -45,13 +45,12 @@ returns-then-is_none c =
 
 pub invariant_of-self : goal.invariant_of-self
 invariant_of-self c =
-    let book = c.args.self.now in (
-      length-set book.tasks c.in_ok-place.place (Some c.in_ok-task.task) ∙ book.ports,
-      (
-        periodic_fit book c.args.port c.args.cycles c.args.access c.args.shares.now c.args.period c.in_ok-place.place c.in_ok-place.ensures c.in_ok-task.task c.in_ok-task.ensures c.hyperperiod_of.result c.hyperperiod_of.ensures (c.is_none.ensures ∙ ap not c.if-is_none.false),
-        (book.within, tt),
-      ),
-    )
+    let book = c.args.self.now in
+    record {
+      ports = length-set book.tasks c.in_ok-place.place (Some c.in_ok-task.task) ∙ book.ports;
+      fit = periodic_fit book c.args.port c.args.cycles c.args.access c.args.shares.now c.args.period c.in_ok-place.place c.in_ok-place.ensures c.in_ok-task.task c.in_ok-task.ensures c.hyperperiod_of.result c.hyperperiod_of.ensures (c.is_none.ensures ∙ ap not c.if-is_none.false);
+      within = book.within;
+    }
 
 pub returns : goal.returns
 returns c =

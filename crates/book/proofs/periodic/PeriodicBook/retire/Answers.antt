@@ -35,7 +35,7 @@ invariant_of-self c =
     let each = each_left p book.capacity.thousandths 0 book.tasks c.args.port i c.in_ok-place.ensures left is (periodic_task p) parts.0 in
     let shorter : joint_period (standing 1 (set ts i None)) ≤ longest = omega (arith, joint_retired p ts i parts.0, leb-true _ _ parts.1) in
     let short : joint_period (standing 1 (figures_of left)) ≤ longest = omega (arith, shorter, ap (λ us. joint_period (standing 1 us)) (ap figures_of is ∙ figures_set book.tasks i None)) in
-    (ports_left p book.capacity.thousandths 0 book.tasks c.args.port i c.in_ok-place.ensures left is ∙ book.ports, (and_from _ _ each (le-leb _ longest short), (book.within, tt)))
+    record { ports = ports_left p book.capacity.thousandths 0 book.tasks c.args.port i c.in_ok-place.ensures left is ∙ book.ports; fit = and_from _ _ each (le-leb _ longest short); within = book.within }
 
 pub returns : goal.returns
 returns c =

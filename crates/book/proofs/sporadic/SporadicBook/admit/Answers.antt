@@ -32,13 +32,11 @@ returns-in_err-task c =
 
 pub invariant_of-self : goal.invariant_of-self
 invariant_of-self c =
-    let book = c.args.self.now in (
-      length-set book.tasks c.in_ok-place.place (Some c.in_ok-task.task) ∙ book.ports,
-      (
-        sporadic_fit book c.args.port c.args.cycles c.args.access c.args.shares.now c.args.deadline c.in_ok-place.place c.in_ok-place.ensures c.in_ok-task.task c.in_ok-task.ensures,
-        tt,
-      ),
-    )
+    let book = c.args.self.now in
+    record {
+      ports = length-set book.tasks c.in_ok-place.place (Some c.in_ok-task.task) ∙ book.ports;
+      fit = sporadic_fit book c.args.port c.args.cycles c.args.access c.args.shares.now c.args.deadline c.in_ok-place.place c.in_ok-place.ensures c.in_ok-task.task c.in_ok-task.ensures;
+    }
 
 pub returns : goal.returns
 returns c =

@@ -25,7 +25,7 @@ invariant_of-self c =
     let found = c.in_ok-place.ensures in
     let left = c.without-self.result in
     let is = c.without-self.ensures in
-    (ports_left p 1000 book.clock book.tasks c.args.port place found left is ∙ book.ports, (each_left p 1000 book.clock book.tasks c.args.port place found left is (sporadic_task p) book.fit, tt))
+    record { ports = ports_left p 1000 book.clock book.tasks c.args.port place found left is ∙ book.ports; fit = each_left p 1000 book.clock book.tasks c.args.port place found left is (sporadic_task p) book.fit }
 
 pub returns : goal.returns
 returns c =

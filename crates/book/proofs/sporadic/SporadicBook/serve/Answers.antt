@@ -33,13 +33,11 @@ pub invariant_of-self : goal.invariant_of-self
 invariant_of-self c =
     let book = c.args.self.now in
     let b = sporadic_figures book in
-    let within : c.in_ok-place.place < length book.tasks = omega (arith, place_within book.tasks c.args.port c.in_ok-place.place c.in_ok-place.ensures, book.ports) in (
-      length-set book.tasks c.in_ok-place.place c.in_ok-rest.rest ∙ book.ports,
-      (
-        fit_with b.processor 1000 b.tally.clock book.tasks c.args.port c.args.cycles c.in_ok-place.place c.in_ok-place.ensures c.index-self-place.result within c.index-self-place.is c.in_ok-rest.rest (c.in_ok-rest.ensures ∙ ap (λ o. rest_after o c.args.port c.args.cycles) (sym c.index-self-place.is)) book.fit,
-        tt,
-      ),
-    )
+    let within : c.in_ok-place.place < length book.tasks = omega (arith, place_within book.tasks c.args.port c.in_ok-place.place c.in_ok-place.ensures, book.ports) in
+    record {
+      ports = length-set book.tasks c.in_ok-place.place c.in_ok-rest.rest ∙ book.ports;
+      fit = fit_with b.processor 1000 b.tally.clock book.tasks c.args.port c.args.cycles c.in_ok-place.place c.in_ok-place.ensures c.index-self-place.result within c.index-self-place.is c.in_ok-rest.rest (c.in_ok-rest.ensures ∙ ap (λ o. rest_after o c.args.port c.args.cycles) (sym c.index-self-place.is)) book.fit;
+    }
 
 pub returns : goal.returns
 returns c =
