@@ -11,7 +11,7 @@ use board::tasks::Task;
 
 pub mod calls;
 pub mod lives;
-pub mod plans;
+pub mod planning;
 
 // Periodic tasks at the ports of a processor. Each is fit to be planned, and so are all together.
 #[derive(Clone, Copy)]

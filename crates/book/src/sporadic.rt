@@ -9,7 +9,7 @@ use board::tasks::Task;
 
 pub mod calls;
 pub mod lives;
-pub mod plans;
+pub mod planning;
 
 // Sporadic tasks at the ports of a processor, and a clock. Each task is fit to be planned.
 #[derive(Clone, Copy)]

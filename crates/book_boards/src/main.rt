@@ -3,15 +3,15 @@
 #![tactic(auto)]
 
 mod cases;
-mod lives;
 mod measures;
 mod texts;
 mod trials;
+mod two_lives;
 
 use crate::cases::print_cases;
-use crate::lives::print_lives;
 use crate::measures::print_measures;
 use crate::trials::print_trials;
+use crate::two_lives::print_lives;
 use board::levels::Level;
 use board::processors::Processor;
 
