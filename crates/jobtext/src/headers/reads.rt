@@ -23,7 +23,7 @@ fn kind_named(value: &[u8]) -> Option<KindName>
         Some(KindName::Energy)
     } else if is(value, &[<Peak as Kind>::letter_code()]) {
         Some(KindName::Peak)
-    } else if is(value, &[PairKind::<Energy, Peak>::letter_code()]) {
+    } else if is(value, &[<Pair<Energy, Peak> as Kind>::letter_code()]) {
         Some(KindName::Both)
     } else {
         None
