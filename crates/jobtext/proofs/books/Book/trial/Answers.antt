@@ -16,7 +16,7 @@ returns g c =
     let did = c.trial-answer.ensures in
     record {
       answer = did.answer ∙ ap (λ b. periodic_trial k (book_view b).figures capacity (length c.args.list.now) (length c.args.levels.now)) is;
-      book = ap (job_book Periodic) (did.book ∙ trial_stays (periodic_figures c.in-Periodic.book) capacity (length c.args.list.now) (length c.args.levels.now)) ∙ ap book_view is;
+      book = ap (job_book Periodic) (did.book ∙ trial_stays (periodic_figures c.in-Periodic.book) capacity) ∙ ap book_view is;
       list = did.list ∙ ap (λ b. list_after k (periodic_rows_of k (at_capacity (book_view b).figures capacity)) c.trial-answer.result c.args.list.now c.trial-answer.new.list) is;
       levels = did.levels ∙ ap (λ b. levels_after k (periodic_rows_of k (at_capacity (book_view b).figures capacity)) c.trial-answer.result c.args.levels.now) is;
     }

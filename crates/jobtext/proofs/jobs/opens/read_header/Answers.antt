@@ -21,16 +21,13 @@ overflow_sub-result-in-Err c = omega (arith, c.header.new.self.some, c.line_numb
 pub invariant_of-result : goal.invariant_of-result
 invariant_of-result c =
     let left = header_left c.args.text.now (sym c.too_long.ensures ∙ c.if-too_long.false) (place c.behind-reader.result) c.behind-reader.ensures (header_figures c.in_ok-header.header) (place c.header.new.self) c.in_ok-header.ensures in
-    let p = c.in-Ok.processor in (
-      omega (arith, c.header.new.self.some, c.line_number-line.ensures),
-      (
-        omega (arith, c.header.new.self.some, c.line_number-line.ensures, c.bytes_left.ensures),
-        (
-          ap length c.standby.ensures ∙ sym (ap (λ (b : JobBook). length b.figures.processor.standby) c.of.ensures),
-          (omega (arith, ap length c.standby.ensures, length-take p.device_count p.standby, p.few_devices), tt),
-        ),
-      ),
-    )
+    let p = c.in-Ok.processor in
+    record {
+      some = omega (arith, c.header.new.self.some, c.line_number-line.ensures);
+      few = omega (arith, c.header.new.self.some, c.line_number-line.ensures, c.bytes_left.ensures);
+      all_devices = ap length c.standby.ensures ∙ sym (ap (λ (b : JobBook). length b.figures.processor.standby) c.of.ensures);
+      few_devices = omega (arith, ap length c.standby.ensures, length-take p.device_count p.standby, p.few_devices);
+    }
 
 pub returns-in_err-header : goal.returns-in_err-header
 returns-in_err-header c =

@@ -16,15 +16,13 @@ pub invariant_of-stage : goal.invariant_of-stage
 invariant_of-stage g c =
     let going = c.args.going.now in
     let left = call_left c.args.text.now going.at going.line (place c.behind-reader.result) c.behind-reader.ensures c.rule.result going.devices (call_figures c.rule.result c.in-Ok.call) (place c.call.new.self) c.in-Ok.ensures.call in
-    let b = book_view going.book in (
-      omega (arith, c.line_number.ensures, c.call.new.self.some),
-      (
-        omega (arith, c.line_number.ensures, c.bytes_left.ensures, c.call.new.self.some, going.few, c.requires.inside),
-        (
+    let b = book_view going.book in
+    record {
+      some = omega (arith, c.line_number.ensures, c.call.new.self.some);
+      few = omega (arith, c.line_number.ensures, c.bytes_left.ensures, c.call.new.self.some, going.few, c.requires.inside);
+      all_devices =
           going.all_devices
-              ∙ sym (ap (λ (p : ProcessorFigures). length p.standby) (same_processor g.K.Kind.meaning (length c.args.list.now) b (call_figures b.rule c.in-Ok.call)))
-              ∙ sym (ap (λ (x : JobBook). length x.figures.processor.standby) c.make-answer.ensures.keeps),
-          (going.few_devices, tt),
-        ),
-      ),
-    )
+          ∙ sym (ap (λ (p : ProcessorFigures). length p.standby) (same_processor g.K.Kind.meaning (length c.args.list.now) b (call_figures b.rule c.in-Ok.call)))
+          ∙ sym (ap (λ (x : JobBook). length x.figures.processor.standby) c.make-answer.ensures.keeps);
+      few_devices = going.few_devices;
+    }

@@ -6,7 +6,7 @@ use Rattle.jobtext.proofs.readers.Reader.line.Goals as goal
 pub invariant_of-self : goal.invariant_of-self
 invariant_of-self c =
     let inside : c.in_ok-length.length < length c.args.self.now.rest.now = c.in_ok-length.ensures.inside in
-    (omega arith, (omega (arith, c.args.self.now.few), tt))
+    record { some = omega arith; few = omega (arith, c.args.self.now.few) }
 
 pub returns : goal.returns
 returns c =
