@@ -73,7 +73,7 @@ pub fn front_of(
             front.push(*pair)?;
         }
     }
-    front.sort();
+    front.sort()?;
     Ok(front)
 }
 

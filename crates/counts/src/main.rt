@@ -24,6 +24,7 @@ use crate::figures::{Aim, Rule};
 use crate::making::make_board;
 use crate::numbers::Numbers;
 use crate::totals::Totals;
+use anyhow::anyhow;
 use cost::energies::Energy;
 use cost::pairs::Pair;
 use cost::peaks::Peak;
@@ -94,7 +95,7 @@ fn run(rt: &HostRuntime) -> anyhow::Result<()> {
     for number in 0..BOARDS {
         if let Err(difference) = compare_next(rt.alloc(), &mut numbers, number, &mut totals) {
             let text = format!(in rt.alloc(); "board {number}: {difference}")?;
-            return Err(text.into());
+            return Err(anyhow!(text));
         }
     }
     totals.print(rt)?;

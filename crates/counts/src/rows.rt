@@ -119,7 +119,7 @@ fn turns_of(heap: Global, rule: Rule, standing: &[Ask]) -> Result<Vec<Turn>, Dif
             place,
         })?;
     }
-    turns.sort();
+    turns.sort()?;
     Ok(turns)
 }
 
