@@ -29,7 +29,7 @@ fn a_refusal(rt: HostRuntime) -> Result<(), Fail> {
     let text =
         b"kind=e\nrule=s\nlevels=1\nmhz=1\nmw=1\ndevices=0\ncall=clock\ntime=5\ncall=admit\nport=17\ncycles=9\naccess=0\ndeadline=13\n";
     let answers = all_answers(rt.alloc(), text)?;
-    assert!(rt; answers.as_slice() == b"answer=0\nanswer=27\nline=9\nport=17\n");
+    assert!(rt; answers.as_slice() == b"answer=0\nanswer=27\nline=9\nport=17\n".as_slice());
     Ok(())
 }
 
@@ -38,6 +38,6 @@ fn the_rest_of_the_buffer(rt: HostRuntime) {
     let text = b"kind=e\nrule=s\nlevels=1\nmhz=1\nmw=1\ndevices=0\ncall=clock\ntime=5\n";
     let mut answer = [7; 300];
     let _ = three_came(text, [300; 3], &mut answer);
-    assert!(rt; &answer[0..9] == b"answer=0\n");
+    assert!(rt; &answer[0..9] == b"answer=0\n".as_slice());
     assert!(rt; answer[9..] == [7; 291]);
 }
