@@ -7,7 +7,7 @@
 --   rising ls            each level is below the next
 --   processor_fits p     1 to 8 levels, each in range, rising; 0 to 8 devices of 0 to 5,000 mW
 --   processor_made p     the processor, or the fault of figures that do not fit
-use Rattle.std.specs.Prelude.{ℕ, ◌≤◌, Bool, true, cond, ◌&&◌, leb, List, [], ◌∷◌, length, Ok, Err, Result, nat_le, nat_lt}
+use Rattle.std.specs.Prelude.{ℕ, ◌≤◌, Bool, true, cond, ◌&&◌, List, [], ◌∷◌, length, Ok, Err, Result, nat_le, nat_lt}
 use Rattle.std.specs.List.{list_all}
 use Rattle.board.specs.declared.faults.Fault.{Fault}
 use Rattle.board.specs.declared.faults.Fault.TheVariants.{BadProcessor}
@@ -40,7 +40,7 @@ abbrev pub levels_fit : List Level → Bool
 levels_fit ls = between 1 8 (length ls) && (list_all level_fits ls && rising ls)
 
 abbrev pub standby_fits : List ℕ → Bool
-standby_fits ws = nat_le (length ws) 8 && list_all (λ w. leb w 5000) ws
+standby_fits ws = nat_le (length ws) 8 && list_all (λ w. nat_le w 5000) ws
 
 abbrev pub processor_fits : ProcessorFigures → Bool
 processor_fits p = levels_fit p.levels && standby_fits p.standby

@@ -10,7 +10,7 @@
 --   judged p port clock t   the task, or the first fault of its figures, with the port
 --   fewer_cycles t cycles   the task with so many cycles less
 --   served cycles t         the task with so many cycles less, if that is at least one cycle and leaves one
-use Rattle.std.specs.Prelude.{ℕ, ◌+◌, ◌-◌, ◌/◌, Bool, true, cond, ◌&&◌, leb, List, [], ◌∷◌, length, Some, None, Ok, Err, Option, Result, ◌==◌, nat_le, nat_lt}
+use Rattle.std.specs.Prelude.{ℕ, ◌+◌, ◌-◌, ◌/◌, Bool, true, cond, ◌&&◌, List, [], ◌∷◌, length, Some, None, Ok, Err, Option, Result, ◌==◌, nat_le, nat_lt}
 use Rattle.std.specs.List.{list_all}
 use Rattle.board.specs.declared.faults.Fault.{Fault}
 use Rattle.board.specs.declared.faults.Fault.TheVariants.{BadFigure, BadTime, TooSlow}
@@ -27,7 +27,7 @@ pub record FiguresOfTask : Type 0 where
   pub due : Due
 
 abbrev pub shares_fit : ℕ → List ℕ → Bool
-shares_fit devices shares = length shares == devices && list_all (λ s. leb s 1000) shares
+shares_fit devices shares = length shares == devices && list_all (λ s. nat_le s 1000) shares
 
 abbrev pub figures_fit : ProcessorFigures → FiguresOfTask → Bool
 figures_fit p t =
