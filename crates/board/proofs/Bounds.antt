@@ -1,5 +1,5 @@
 -- The figures of an offered level are bounded.
-use Rattle.std.proofs.Common.{◌≡◌, ℕ, zero, suc, ◌+◌, ◌*◌, ◌/◌, ◌<◌, ◌≤◌, Bool, true, ◌&&◌, leb, List, [], ◌∷◌, length, Some, None, sym, refl, ap, ◌∙◌, subst, inl, inr, mul_assoc, mul-le-mul, mul-le-mul_left, mul-add, div-mul-le_self, mul_left_comm, arith}
+use Rattle.std.proofs.Common.{◌≡◌, ℕ, ◌+◌, ◌*◌, ◌/◌, ◌≤◌, true, List, [], ◌∷◌, length, sym, refl, subst, inl, inr, mul-le-mul, mul-le-mul_left, mul-add, div-mul-le_self, mul_left_comm, arith}
 use mathlib.Core.Logic.{∥∥₁_elim}
 use native.Mathlib.Bridge.{le_prop}
 use Rattle.std.specs.List.{list_all}
@@ -8,10 +8,10 @@ use Rattle.board.specs.declared.dues.Due.{Due}
 use Rattle.board.specs.declared.dues.Due.TheVariants.{Period, Deadline}
 use Rattle.board.specs.declared.levels.Level.{Level}
 use Rattle.board.specs.declared.measures.Measure.{Measure}
-use Rattle.board.specs.Processors.{ProcessorFigures, level_fits, levels_fit, standby_fits, processor_fits}
+use Rattle.board.specs.Processors.{ProcessorFigures, levels_fit, standby_fits}
 use Rattle.board.specs.Periods.{period_fits, hyperperiod, longest}
-use Rattle.board.specs.Tasks.{FiguresOfTask, period_in_range, figures_fit, shares_fit, busy_time}
-use Rattle.board.specs.Measures.{draw, most_time, jobs, measure, offered, level_at, Among, Own, AtOfferedLevel, Offered}
+use Rattle.board.specs.Tasks.{FiguresOfTask, period_in_range, shares_fit, busy_time}
+use Rattle.board.specs.Measures.{draw, most_time, jobs, measure, Among, Own, AtOfferedLevel, Offered}
 use Rattle.board.proofs.Leveling.{level_found}
 use Rattle.board.proofs.Standby.{standby_within}
 

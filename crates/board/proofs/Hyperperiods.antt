@@ -1,9 +1,7 @@
 -- One period more.
-use Rattle.std.proofs.Common.{◌≡◌, ℕ, zero, suc, ◌+◌, ◌*◌, ◌%◌, ◌^◌, ◌<◌, ◌≤◌, true, cond, eqb, ◌⊎◌, List, ◌∷◌, length, sym, refl, ap, ◌∙◌, subst, inl, inr, pow-suc, arith}
-use Prim.Native.Nat.{◌∣◌}
-use native.Mathlib.Nat.{dvd_of_mod-eq-zero, mod-eq-zero_of_dvd}
+use Rattle.std.proofs.Common.{◌≡◌, ℕ, zero, suc, ◌+◌, ◌%◌, ◌≤◌, true, eqb, ◌∷◌, sym, ap, subst, inl, inr, pow-suc, arith}
 use Rattle.std.proofs.lemmas.Bool.{and_from, and_parts, leb-true, eq-eqb, ne_eqb, cond-true, cond-false, cases_eq}
-use Rattle.board.specs.Periods.{first_from, lcm, period_fits, hyperperiod, OfPeriods}
+use Rattle.board.specs.Periods.{first_from, lcm, period_fits, OfPeriods}
 use Rattle.board.proofs.Multiples.{from_on}
 
 -- a period that divides the hyperperiod leaves it as it is

@@ -1,9 +1,8 @@
 -- The least common multiple, as the definition finds it, divides every common multiple; and it is what Euclid's divisor gives.
-use Rattle.std.proofs.Common.{◌≡◌, ℕ, zero, suc, ◌+◌, ◌-◌, ◌*◌, ◌/◌, ◌%◌, ◌<◌, ◌≤◌, Bool, true, false, cond, eqb, ◌⊎◌, sym, refl, ap, ◌∙◌, subst, inl, inr, mod-lt, mul_assoc, suc-mul, mul_comm, mul-pos, mul-suc, arith}
-use mathlib.Core.Logic.{∥∥₁_elim}
+use Rattle.std.proofs.Common.{◌≡◌, ℕ, zero, suc, ◌+◌, ◌-◌, ◌*◌, ◌/◌, ◌%◌, ◌<◌, ◌≤◌, eqb, sym, refl, ap, ◌∙◌, subst, mod-lt, mul_assoc, suc-mul, mul_comm, arith}
 use Prim.Native.Nat.{◌∣◌}
-use native.Mathlib.Nat.{∣_prop, dvd_refl, dvd-add, dvd_trans, dvd-mod_iff, dvd-mul_left, dvd-mul_right, dvd-mul_left_of_dvd, dvd_antisymm, le_of_dvd, pos_of_dvd_of_pos, dvd_of_mod-eq-zero, mod-eq-zero_of_dvd, mul-div_cancel', div-mul_cancel, mul-dvd-mul_left, mul-dvd-mul_right, dvd_of_mul-dvd-mul_left, dvd_of_mul-dvd-mul_right}
-use Rattle.std.proofs.lemmas.Bool.{eqb-true, eqb-false, eq-eqb, ne_eqb, cond_both, cond-true, cond-false, cases_eq, cases_Bool}
+use native.Mathlib.Nat.{dvd_refl, dvd-add, dvd-mod_iff, dvd-mul_left, dvd-mul_right, dvd_antisymm, pos_of_dvd_of_pos, dvd_of_mod-eq-zero, mod-eq-zero_of_dvd, mul-div_cancel', div-mul_cancel, mul-dvd-mul_left, mul-dvd-mul_right, dvd_of_mul-dvd-mul_left, dvd_of_mul-dvd-mul_right}
+use Rattle.std.proofs.lemmas.Bool.{eqb-true, eq-eqb, cond_both, cond-true}
 use Rattle.board.specs.Periods.{first_from, lcm, LeastMultiple}
 
 -- the search never goes back

@@ -1,17 +1,16 @@
 -- Offers of a processor to a task, by what their types hold.
-use Rattle.std.proofs.Common.{◌≡◌, ℕ, zero, suc, ◌+◌, ◌%◌, ◌^◌, ◌<◌, ◌≤◌, Bool, true, false, cond, ◌&&◌, eqb, leb, ◌⊎◌, List, [], ◌∷◌, length, get_or, Some, None, Option, sym, refl, ap, ◌∙◌, subst, inl, inr, arith, pow_mono}
+use Rattle.std.proofs.Common.{◌≡◌, ℕ, ◌%◌, ◌^◌, ◌<◌, ◌≤◌, true, List, ◌∷◌, length, Some, sym, refl, ap, ◌∙◌, subst, inl, inr, arith, pow_mono}
 use mathlib.Core.Logic.{∥∥₁_map}
 use Rattle.std.specs.List.{list_all}
-use Rattle.std.proofs.lemmas.Bool.{le-leb, eq-eqb, eqb-true, and_parts, and_from, cond-true, cases_lt}
+use Rattle.std.proofs.lemmas.Bool.{le-leb, eq-eqb, eqb-true, and_parts, and_from, cases_lt}
 use Rattle.board.specs.declared.dues.Due.{Due}
 use Rattle.board.specs.declared.dues.Due.TheVariants.{Period, Deadline}
 use Rattle.board.specs.declared.levels.Level.{Level}
 use Rattle.board.specs.declared.processors.Processor.{Processor}
 use Rattle.board.specs.declared.tasks.Task.{Task}
-use Rattle.board.specs.Processors.{ProcessorFigures, processor_fits, LevelWithin}
 use Rattle.board.specs.Periods.{period_fits, hyperperiod, lcm, longest, OfPeriods}
-use Rattle.board.specs.Tasks.{FiguresOfTask, figures_fit, shares_fit, period_in_range, busy_time}
-use Rattle.board.specs.Measures.{most_time, measure, level_at, offered, counts_in, Own, AtOfferedLevel, Offered}
+use Rattle.board.specs.Tasks.{figures_fit, shares_fit, period_in_range, busy_time}
+use Rattle.board.specs.Measures.{most_time, measure, level_at, offered, counts_in, Own, Offered}
 use Rattle.board.specs.Views.{processor_figures, task_figures}
 use Rattle.board.proofs.Bounds.{Bounded, measure_bounded}
 use Rattle.board.proofs.Hyperperiods.{lcm_same, period_pos}

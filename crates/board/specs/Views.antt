@@ -2,7 +2,7 @@
 --   processor_figures p   a processor's figures; processor_view: those of an answer
 --   named_figures t       a task's figures as a caller names them
 --   task_figures t        a task's figures; task_view: those of an answer
-use Rattle.std.specs.Prelude.{ℕ, List, take, Ok, Err, Result}
+use Rattle.std.specs.Prelude.{take, Ok, Err, Result}
 use Rattle.board.specs.declared.faults.Fault.{Fault}
 use Rattle.board.specs.declared.processors.Processor.{Processor}
 use Rattle.board.specs.declared.tasks.Task.{Task}

@@ -1,19 +1,16 @@
 -- What is promised of the answers to a question.
-use Rattle.std.proofs.Common.{◌≡◌, ℕ, ◌≤◌, Bool, true, false, cond, not, List, length, Some, None, Ok, Err, Option, Result, sym, refl, ap, ◌∙◌, subst, arith}
-use Rattle.std.specs.Option.{option_map}
-use Rattle.std.proofs.lemmas.List.{length-map}
+use Rattle.std.proofs.Common.{◌≡◌, ℕ, ◌≤◌, Bool, true, false, cond, not, List, length, Some, None, Result, sym, refl, ap, ◌∙◌, subst, arith}
 use Rattle.std.proofs.lemmas.Bool.{true≢false}
 use Rattle.board.specs.declared.faults.Fault.{Fault}
 use Rattle.board.specs.declared.faults.Fault.TheVariants.{BadSetting}
-use Rattle.board.specs.Processors.{ProcessorFigures, between, processor_fits}
-use Rattle.board.specs.Views.{task_figures}
+use Rattle.board.specs.Processors.{ProcessorFigures, between}
 use Rattle.cost.specs.Kinds.{Meaning, Laws}
 use Rattle.plans.specs.declared.figures.Figures.{Figures}
 use Rattle.plans.specs.declared.states.State.{State}
 use Rattle.plans.specs.Choices.{Row}
 use Rattle.plans.specs.Plans.{planned, list_after, levels_after}
 use Rattle.tally.specs.Tally.{Tally, Call}
-use Rattle.tally.specs.Boards.{periodic_board, sporadic_board, periodic_tasks, sporadic_tasks, Match}
+use Rattle.tally.specs.Boards.{periodic_board, sporadic_board, Match}
 use Rattle.tally.specs.Books.{BookFigures, book_figures}
 use Rattle.tally.specs.Plans.{at_capacity, unless_declined, periodic_rows_of, periodic_plan, sporadic_rows_of, sporadic_plan}
 use Rattle.tally.specs.Promises.{Promised, Agree}
@@ -23,12 +20,8 @@ use Rattle.tally.proofs.Sporadic.{sporadic_matched}
 use Rattle.tally.proofs.Promising.{promised, agree}
 use Rattle.book.specs.declared.calls.Question.{Question}
 use Rattle.book.specs.declared.calls.Question.TheVariants.{Plan, Trial}
-use Rattle.book.specs.declared.periodic.PeriodicBook.{PeriodicBook}
-use Rattle.book.specs.declared.sporadic.SporadicBook.{SporadicBook}
-use Rattle.book.specs.Views.{periodic_figures, sporadic_figures}
 use Rattle.book.specs.Lives.{lived, asked_book, asked_able, asked_answer, LifeOfPeriodic, LifeOfSporadic}
-use Rattle.book.proofs.ByPort.{processor_good}
-use Rattle.book.proofs.Fitting.{Fit, PeriodicFit, SporadicFit}
+use Rattle.book.proofs.Fitting.{PeriodicFit, SporadicFit}
 
 module _ {C : Type 0} (k : Meaning C) (laws : Laws k) where
   -- less is asked of planning that is able to in fewer cases

@@ -1,6 +1,5 @@
 -- Calls as a program holds them.
 --   periodic_call c     a call of the periodic book; sporadic_call: of the sporadic book
-use Rattle.std.specs.Prelude.{ℕ, List}
 use Rattle.board.specs.declared.dues.Due.TheVariants.{Period, Deadline}
 use Rattle.tally.specs.Tally.{Call, admit, retire, serve, set_capacity, trial, set_clock, plan}
 use Rattle.book.specs.declared.calls.PeriodicCall.{PeriodicCall}

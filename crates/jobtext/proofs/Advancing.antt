@@ -1,12 +1,12 @@
 -- Reading goes on in the text: each line that is read has a byte at least, so that there are never more lines than bytes, and
 -- a call leaves fewer bytes than it found.
-use Rattle.std.proofs.Common.{◌≡◌, ℕ, zero, suc, ◌+◌, ◌<◌, ◌≤◌, Bool, true, false, cond, eqb, List, [], ◌∷◌, length, Some, None, Ok, Err, codes, Option, refl, arith}
+use Rattle.std.proofs.Common.{ℕ, zero, suc, ◌+◌, ◌<◌, ◌≤◌, Bool, true, false, cond, eqb, List, [], ◌∷◌, length, Some, None, Ok, Err, codes, Option, arith}
 use Rattle.std.specs.Option.{option_map}
 use Rattle.plantext.specs.Numbers.{number_of}
 use Rattle.jobtext.specs.declared.headers.Rule.{Rule}
 use Rattle.jobtext.specs.declared.calls.Word.{Word}
 use Rattle.jobtext.specs.declared.calls.Word.TheVariants.{Admit, Retire, Capacity, Trial, Serve, Clock, Plan}
-use Rattle.jobtext.specs.Lines.{Place, Reading, Got, got, and_then, Cut, longer, cut, behind, ended, keyed, formed, due, repeated}
+use Rattle.jobtext.specs.Lines.{Place, Reading, got, and_then, Cut, longer, cut, behind, ended, keyed, formed, due, repeated}
 use Rattle.jobtext.specs.Headers.{number_line, level, header, kind_of, rule_of, count_of}
 use Rattle.jobtext.specs.Calls.{call_lines, job_call, word_of, due_key}
 

@@ -1,5 +1,5 @@
 -- Each job call leaves fewer calls than it found.
-use Rattle.std.proofs.Common.{◌≡◌, ℕ, suc, ◌-◌, ◌<◌, ◌≤◌, Bool, true, false, cond, ltb, leb, List, length, drop, is_some, Some, None, Ok, Err, Option, sym, refl, arith, length-drop, leb-false}
+use Rattle.std.proofs.Common.{◌≡◌, ℕ, ◌<◌, Bool, true, false, cond, ltb, leb, List, length, drop, is_some, Some, None, Ok, Err, Option, sym, refl, arith, length-drop, leb-false}
 use Rattle.std.proofs.lemmas.Bool.{true≢false}
 use Rattle.cost.specs.Kinds.{Meaning}
 use Rattle.plantext.specs.declared.faults.JobFault.TheVariants.{LongText, ShortAnswer}

@@ -1,5 +1,5 @@
 -- What a text is opened as, once its header is read.
-use Rattle.std.proofs.Common.{◌≡◌, ℕ, ◌+◌, ◌-◌, ◌≤◌, Bool, false, cond, ltb, List, length, drop, Ok, Err, sym, refl, ap, ◌∙◌, subst}
+use Rattle.std.proofs.Common.{◌≡◌, ℕ, ◌+◌, ◌-◌, ◌≤◌, false, cond, ltb, List, length, drop, Ok, Err, sym, ap, ◌∙◌, subst}
 use Rattle.board.specs.declared.faults.Fault.{Fault}
 use Rattle.board.specs.Processors.{ProcessorFigures, processor_made}
 use Rattle.plantext.specs.declared.faults.JobFault.{JobFault}
@@ -8,7 +8,7 @@ use Rattle.jobtext.specs.declared.headers.KindName.TheVariants.{Energy}
 use Rattle.jobtext.specs.Lines.{Place, Reading, got}
 use Rattle.jobtext.specs.Headers.{Header, header}
 use Rattle.jobtext.specs.Books.{booked}
-use Rattle.jobtext.specs.Jobs.{longest_text, Stage, faulty, going, opening, behind_header, opened_by, opened, start}
+use Rattle.jobtext.specs.Jobs.{longest_text, faulty, going, opening, behind_header, opened_by, opened, start}
 use Rattle.jobtext.proofs.Advancing.{extent, Advances, header_advances}
 
 module _ (text : List ℕ) (fits : ltb longest_text (length text) ≡ false) (q₀ : Place) (at_start : q₀ ≡ record { rest = drop 0 text; line = 1 }) where

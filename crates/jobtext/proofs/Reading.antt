@@ -1,6 +1,6 @@
 -- A due line by its value.
-use Rattle.std.proofs.Common.{◌≡◌, ℕ, List, Some, None, Ok, Err, Option, sym, refl, ap, ◌∙◌, arith}
-use Rattle.jobtext.specs.Lines.{Place, Reading, Got, got, and_then, Cut, cut, behind, ended, keyed, formed, due}
+use Rattle.std.proofs.Common.{◌≡◌, ℕ, List, Some, None, Ok, Option, ap, arith}
+use Rattle.jobtext.specs.Lines.{Place, got, and_then, Cut, cut, behind, ended, keyed, formed, due}
 
 module _ {X : Type 0} (key : List ℕ) (form : List ℕ → Option X) (line : ℕ) (v : List ℕ) (r : Place) where
   at_key : (s : Place) (o : Option (List ℕ)) → Ok (got v r) ≡ and_then (keyed line s o) (λ w t. formed line t (Some w)) → formed line r (form v) ≡ and_then (keyed line s o) (λ w t. formed line t (form w))

@@ -1,8 +1,8 @@
 -- Reading several times, one after the other.
-use Rattle.std.proofs.Common.{◌≡◌, ℕ, zero, suc, ◌+◌, ◌-◌, ◌<◌, ◌≤◌, List, [], ◌∷◌, ◌++◌, length, take, set, Ok, Err, sym, refl, ap, ◌∙◌, arith}
+use Rattle.std.proofs.Common.{◌≡◌, ℕ, suc, ◌+◌, ◌-◌, ◌<◌, List, [], ◌∷◌, ◌++◌, length, take, set, Ok, Err, sym, refl, ap, ◌∙◌, arith}
 use Rattle.std.proofs.lemmas.List.{append_assoc, append-nil, take_more_set}
 use Rattle.plantext.specs.declared.faults.JobFault.{JobFault}
-use Rattle.jobtext.specs.Lines.{Place, Reading, Got, got, and_then, repeated}
+use Rattle.jobtext.specs.Lines.{Place, Reading, got, and_then, repeated}
 
 -- what was read before, and what is read on
 abbrev pub following : {X : Type 0} → List X → Reading (List X) → Reading (List X)

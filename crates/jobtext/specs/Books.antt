@@ -2,7 +2,6 @@
 --   JobBook          a rule, and the figures of a book of that rule
 --   book_view b       what the book of a job stands for
 --   booked rule p     a new book of the rule
-use Rattle.std.specs.Prelude.{ℕ}
 use Rattle.board.specs.Processors.{ProcessorFigures}
 use Rattle.tally.specs.Tally.{new_tally}
 use Rattle.tally.specs.Books.{BookFigures, book_figures}

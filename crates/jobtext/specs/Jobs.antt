@@ -24,7 +24,7 @@ use Rattle.plantext.specs.Faults.{job_numbered}
 use Rattle.jobtext.specs.declared.answers.Answered.{Answered}
 use Rattle.jobtext.specs.declared.headers.KindName.{KindName}
 use Rattle.jobtext.specs.declared.headers.KindName.TheVariants.{Energy}
-use Rattle.jobtext.specs.Lines.{Place, Reading, Got}
+use Rattle.jobtext.specs.Lines.{Place, Reading}
 use Rattle.jobtext.specs.Headers.{Header, header}
 use Rattle.jobtext.specs.Calls.{CallOfJob, job_call}
 use Rattle.jobtext.specs.Books.{JobBook, booked}

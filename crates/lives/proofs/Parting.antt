@@ -1,5 +1,5 @@
 -- A plan in the first places of a list and the first bytes of a buffer.
-use Rattle.std.proofs.Common.{◌≡◌, ℕ, ◌+◌, ◌-◌, min, List, ◌++◌, length, take, drop, Option, Result, sym, ap, ◌∙◌, inl, inr, append-nil, arith}
+use Rattle.std.proofs.Common.{◌≡◌, ℕ, ◌-◌, min, List, ◌++◌, length, take, drop, Option, Result, sym, ap, ◌∙◌, inl, inr, append-nil, arith}
 use native.Mathlib.Nat.{min-eq_left, min-eq_right}
 use borrow.Rule.Slice.PartMut.{post_of, Post-is}
 use Rattle.std.proofs.lemmas.List.{take_all, take_at, drop_all, length-take}

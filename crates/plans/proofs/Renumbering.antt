@@ -1,5 +1,5 @@
 -- Best choices of matched rows have one cost and one load.
-use Rattle.std.proofs.Common.{◌≡◌, ℕ, suc, ◌+◌, ◌≤◌, T, leb, List, [], ◌∷◌, length, sym, refl, ap, ◌∙◌, subst, inl, inr, ⊎_elim, arith, le→leb, leb→le}
+use Rattle.std.proofs.Common.{◌≡◌, suc, ◌+◌, ◌≤◌, T, leb, List, [], ◌∷◌, length, sym, refl, ap, ◌∙◌, subst, inl, inr, ⊎_elim, arith, le→leb, leb→le}
 use mathlib.Core.Logic.{∥∥₁_elim}
 use mathlib.Core.HLevel.{×_prop}
 use mathlib.Core.List.{reverse_aux}

@@ -2,7 +2,7 @@
 use Rattle.std.proofs.Common.{◌≡◌, ◌+◌, ◌≤◌, T, List, ◌∷◌, length, sym, refl, ap, ◌∙◌, subst, inl, inr, arith}
 use Rattle.cost.specs.Kinds.{Meaning, most_entries, Sum, both, Laws, NoDearer}
 use Rattle.plans.specs.Choices.{In, Offer, Row, Taken, taken, each_with, beginnings, load, open_to}
-use Rattle.plans.specs.Fronts.{Pair, cost, pair, step, no_worse, unbeaten, sorted, reached, front}
+use Rattle.plans.specs.Fronts.{Pair, pair, step, no_worse, unbeaten, sorted, reached, front}
 use Rattle.plans.specs.Promises.{Priced, admits, extended}
 use Rattle.plans.proofs.Members.{kept_in, kept_out, each_in, each_out}
 use Rattle.plans.proofs.Least.{Least, least_part, least_whole}

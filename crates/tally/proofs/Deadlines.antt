@@ -1,5 +1,5 @@
 -- Tasks by deadline: at other ports, only tasks of one deadline may change places.
-use Rattle.std.proofs.Common.{◌≡◌, ℕ, ◌+◌, ◌<◌, ◌≤◌, Bool, true, false, cond, ◌&&◌, ◌||◌, eqb, ltb, leb, List, [], ◌∷◌, Some, None, Option, sym, refl, ap, ◌∙◌, subst, inl, inr, arith}
+use Rattle.std.proofs.Common.{◌≡◌, ℕ, ◌+◌, ◌<◌, ◌≤◌, Bool, true, false, cond, ◌&&◌, eqb, ltb, leb, List, [], ◌∷◌, Some, None, Option, sym, refl, ap, subst, inl, inr, arith}
 use Rattle.std.proofs.lemmas.Bool.{ltb-true, ltb-false, leb-true, leb-false, eqb-true, le-leb, lt-leb, or_cases, or_parts, and_parts, cond-true, cond_both, cases_order, true≢false}
 use Rattle.board.specs.Tasks.{FiguresOfTask}
 use Rattle.cost.specs.Sums.{Reordered, no_items, same_first, first_two, by_way_of}

@@ -1,5 +1,5 @@
 -- A task that is fit for a book has its top level offered, and at each offered level the measure of an admissible task.
-use Rattle.std.proofs.Common.{◌≡◌, ℕ, ◌-◌, ◌%◌, ◌<◌, ◌≤◌, Bool, true, false, cond, ◌&&◌, eqb, leb, List, [], length, get_or, Some, None, Option, sym, refl, ap, ◌∙◌, subst, inl, inr, arith}
+use Rattle.std.proofs.Common.{◌≡◌, ℕ, ◌-◌, ◌%◌, ◌≤◌, Bool, true, false, cond, ◌&&◌, eqb, leb, List, [], length, get_or, Some, None, Option, sym, refl, ap, ◌∙◌, subst, arith}
 use Prim.Native.Nat.{◌∣◌}
 use native.Mathlib.Nat.{mod-eq-zero_of_dvd}
 use Rattle.std.specs.List.{list_all}
@@ -10,8 +10,8 @@ use Rattle.board.specs.declared.levels.Level.{Level}
 use Rattle.board.specs.declared.measures.Measure.{Measure}
 use Rattle.board.specs.Processors.{ProcessorFigures, between, levels_fit, standby_fits, processor_fits}
 use Rattle.board.specs.Periods.{period_fits, hyperperiod, longest}
-use Rattle.board.specs.Tasks.{FiguresOfTask, figures_fit, shares_fit, busy_time, top_speed}
-use Rattle.board.specs.Measures.{measure, most_time, offered, level_at, offer_at, offer, counts_in, belongs, Among, Own, AtOfferedLevel, Offered}
+use Rattle.board.specs.Tasks.{FiguresOfTask, figures_fit, shares_fit, busy_time}
+use Rattle.board.specs.Measures.{measure, most_time, offered, level_at, offer_at, offer, counts_in, belongs, Among, Own, Offered}
 use Rattle.board.proofs.Leveling.{some_level, top_last, level_there}
 use Rattle.plans.specs.Boards.{Standing, standing, due_time, due_of, joint_period}
 use Rattle.plans.specs.Choices.{In}

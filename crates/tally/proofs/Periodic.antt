@@ -1,16 +1,15 @@
 -- Tasks at other ports have matched rows in a periodic book.
-use Rattle.std.proofs.Common.{◌≡◌, ℕ, ◌+◌, true, List, [], ◌∷◌, map, Some, None, Option, sym, refl, ap, ◌∙◌, subst}
+use Rattle.std.proofs.Common.{◌≡◌, ℕ, ◌+◌, true, List, [], ◌∷◌, map, Some, None, Option, refl, subst}
 use Rattle.std.proofs.lemmas.Bool.{and_parts}
 use Rattle.board.specs.Processors.{ProcessorFigures}
 use Rattle.board.specs.Tasks.{FiguresOfTask}
 use Rattle.cost.specs.Kinds.{Meaning}
 use Rattle.cost.specs.Sums.{Reordered, no_items, same_first, first_two, by_way_of}
 use Rattle.plans.specs.Choices.{Row}
-use Rattle.plans.specs.Boards.{Standing, standing, row, joint_period, periodic_limit, periodic_rows}
+use Rattle.plans.specs.Boards.{standing, row, joint_period, periodic_limit, periodic_rows}
 use Rattle.plans.specs.Promises.{Alike, Matched, no_rows, one_more, swapped, in_turn}
 use Rattle.tally.specs.Tally.{Tally}
 use Rattle.tally.specs.Boards.{periodic_board, periodic_task, each_task, periodic_tasks, Match}
-use Rattle.tally.proofs.Orders.{reordered_self}
 use Rattle.tally.proofs.Periods.{joint_reordered}
 
 module _ {C : Type 0} (k : Meaning C) (p : ProcessorFigures) (h limit : ℕ) where

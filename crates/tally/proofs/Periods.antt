@@ -1,5 +1,5 @@
 -- The hyperperiod of tasks does not depend on their ports.
-use Rattle.std.proofs.Common.{◌≡◌, ℕ, zero, suc, ◌+◌, ◌≤◌, Bool, true, ◌&&◌, List, [], ◌∷◌, map, set, Some, None, Option, sym, refl, ap, ◌∙◌, subst, inl, inr, arith}
+use Rattle.std.proofs.Common.{◌≡◌, ℕ, zero, suc, ◌+◌, ◌≤◌, true, ◌&&◌, List, [], ◌∷◌, map, set, Some, None, Option, sym, refl, ap, ◌∙◌, subst, inl, inr, arith}
 use Prim.Native.Nat.{◌∣◌}
 use native.Mathlib.Nat.{dvd_refl, dvd_trans, dvd_antisymm, le_of_dvd}
 use Rattle.std.specs.List.{list_all}
@@ -14,7 +14,7 @@ use Rattle.board.proofs.Multiples.{lcm_first, lcm_second, lcm_pos, lcm_least}
 use Rattle.board.proofs.Hyperperiods.{period_pos}
 use Rattle.cost.specs.Sums.{Reordered, no_items, same_first, first_two, by_way_of}
 use Rattle.plans.specs.Boards.{standing, due_time, due_of, joint_period}
-use Rattle.tally.specs.Boards.{has_period, top_offered, periodic_task, on_task, each_task}
+use Rattle.tally.specs.Boards.{has_period, top_offered, periodic_task, each_task}
 use Rattle.tally.proofs.Orders.{reordered_self, reordered_pass}
 
 module _ (h p q : ℕ) (h_pos : 1 ≤ h) (p_pos : 1 ≤ p) (q_pos : 1 ≤ q) where

@@ -1,13 +1,10 @@
 -- The promises hold of every plan of rows that are fit.
-use Rattle.std.proofs.Common.{◌≡◌, ℕ, ◌≤◌, List, Ok, Result, sym, refl, ap, ◌∙◌, subst}
-use Rattle.board.specs.declared.faults.Fault.{Fault}
+use Rattle.std.proofs.Common.{ℕ, ◌≤◌, List, sym, ◌∙◌, subst}
 use Rattle.cost.specs.Kinds.{Meaning, Laws}
-use Rattle.plans.specs.declared.figures.Figures.{Figures}
-use Rattle.plans.specs.Choices.{Row, load}
-use Rattle.plans.specs.Fronts.{cost}
+use Rattle.plans.specs.Choices.{Row}
 use Rattle.plans.specs.Places.{chosen}
 use Rattle.plans.specs.Plans.{planned, levels_after}
-use Rattle.plans.specs.Promises.{Rows, Ports, Matched, PlanOf, NoChoice, number_of}
+use Rattle.plans.specs.Promises.{Rows, Ports, Matched}
 use Rattle.plans.proofs.Fitting.{plans_best, none_fits_exactly}
 use Rattle.plans.proofs.Renumbering.{renumbered}
 use Rattle.plans.proofs.Telling.{levels_told}

@@ -1,11 +1,11 @@
 -- What follows from the first line that applies, and from none.
-use Rattle.std.proofs.Common.{◌≡◌, ℕ, Bool, true, false, cond, not, List, [], ◌∷◌, ◌++◌, Some, None, Ok, Err, Option, Result, sym, refl, ap, ◌∙◌, arith}
+use Rattle.std.proofs.Common.{◌≡◌, ℕ, Bool, true, false, cond, not, List, [], ◌∷◌, ◌++◌, Some, None, Ok, Err, Option, sym, refl, ap, ◌∙◌, arith}
 use Rattle.board.specs.declared.faults.Fault.{Fault}
 use Rattle.board.specs.declared.faults.Fault.TheVariants.{BadFigure, BadTime, TooSlow, LongHyperperiod}
 use Rattle.board.specs.Processors.{ProcessorFigures}
 use Rattle.board.specs.Tasks.{FiguresOfTask, figures_fit, due_fits, quick_enough, judged}
 use Rattle.tally.specs.Tally.{Tally, put, Call, admit, trial}
-use Rattle.tally.specs.Refusals.{Line, first, no_such_port, port_taken, long_period, lines, refused, answered}
+use Rattle.tally.specs.Refusals.{Line, first, no_such_port, port_taken, long_period, refused, answered}
 use Rattle.tally.specs.Steps.{changed, unless_refused}
 use Rattle.tally.specs.Books.{BookFigures, book_figures, answer, after}
 

@@ -1,8 +1,8 @@
 -- The boards of a tally whose tasks are fit: what the theorems on plans ask of rows.
-use Rattle.std.proofs.Common.{◌≡◌, ℕ, ◌≤◌, true, List, length, refl, arith}
+use Rattle.std.proofs.Common.{◌≡◌, ◌≤◌, true, length, refl, arith}
 use Rattle.board.specs.Processors.{ProcessorFigures, processor_fits}
 use Rattle.cost.specs.Kinds.{Meaning}
-use Rattle.plans.specs.Boards.{Standing, standing, due_of, by_deadline, row, joint_period, periodic_limit, sporadic_limit}
+use Rattle.plans.specs.Boards.{standing, due_of, by_deadline, row, joint_period, periodic_limit, sporadic_limit}
 use Rattle.plans.specs.Promises.{Rows, Ports}
 use Rattle.plans.proofs.Standings.{periodic_stand, sporadic_stand}
 use Rattle.tally.specs.Tally.{Tally}

@@ -1,5 +1,5 @@
 -- A task with cycles taken off.
-use Rattle.std.proofs.Common.{◌≡◌, ℕ, zero, suc, ◌+◌, ◌-◌, ◌/◌, ◌<◌, ◌≤◌, Bool, true, false, cond, not, ◌&&◌, ltb, leb, List, [], ◌∷◌, Some, None, Option, sym, refl, ap, ◌∙◌, le-div_iff_mul-le, div-mul-le_self, arith}
+use Rattle.std.proofs.Common.{◌≡◌, ℕ, zero, suc, ◌+◌, ◌-◌, ◌<◌, ◌≤◌, true, false, cond, not, ◌&&◌, ltb, leb, List, [], ◌∷◌, Some, None, Option, refl, ap, ◌∙◌, le-div_iff_mul-le, div-mul-le_self, arith}
 use native.Mathlib.Nat.{div-zero}
 use Rattle.std.proofs.lemmas.Bool.{and_parts, and_from, leb-true, le-leb, ltb-true, cond_both}
 use Rattle.board.specs.declared.faults.Fault.{Fault}

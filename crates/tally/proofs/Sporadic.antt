@@ -1,10 +1,10 @@
 -- Tasks at other ports have matched rows in a sporadic book.
-use Rattle.std.proofs.Common.{◌≡◌, ℕ, List, map, refl, ap, subst}
+use Rattle.std.proofs.Common.{ℕ, List, map, ap, subst}
 use Rattle.board.specs.Processors.{ProcessorFigures}
 use Rattle.board.specs.Tasks.{FiguresOfTask}
 use Rattle.cost.specs.Kinds.{Meaning}
 use Rattle.plans.specs.Choices.{Row}
-use Rattle.plans.specs.Boards.{Standing, standing, due_time, due_of, by_deadline, offers, row, sporadic_limit, sporadic_rows}
+use Rattle.plans.specs.Boards.{Standing, standing, due_time, due_of, offers, row, sporadic_limit, sporadic_rows}
 use Rattle.plans.specs.Promises.{Matched, no_rows, one_more, swapped, in_turn}
 use Rattle.tally.specs.Tally.{Tally}
 use Rattle.tally.specs.Boards.{sporadic_board, Match}

@@ -1,5 +1,5 @@
 -- What holds of each standing task.
-use Rattle.std.proofs.Common.{◌≡◌, ℕ, zero, suc, ◌+◌, ◌-◌, ◌<◌, ◌≤◌, Bool, true, cond, ◌⊎◌, List, [], ◌∷◌, ◌++◌, map, length, get_or, take, Some, None, Option, sym, refl, ap, ◌∙◌, subst, inl, inr, ⊎_elim, arith}
+use Rattle.std.proofs.Common.{◌≡◌, ℕ, zero, suc, ◌+◌, ◌-◌, ◌<◌, ◌≤◌, Bool, true, ◌⊎◌, List, [], ◌∷◌, ◌++◌, map, length, get_or, take, Some, None, Option, sym, refl, ap, ◌∙◌, subst, inl, inr, ⊎_elim, arith}
 use Rattle.std.proofs.lemmas.Bool.{and_parts, cond_both}
 use Rattle.board.specs.Tasks.{FiguresOfTask}
 use Rattle.board.specs.Measures.{Among}
@@ -7,7 +7,7 @@ use Rattle.plans.specs.Choices.{In, Row}
 use Rattle.plans.specs.Boards.{Standing, standing, due_of, sooner, put_by_deadline, by_deadline}
 use Rattle.plans.specs.Promises.{Apart, Ports}
 use Rattle.plans.proofs.Members.{map_out, none-some, same_some}
-use Rattle.tally.specs.Boards.{on_task, each_task}
+use Rattle.tally.specs.Boards.{each_task}
 use Rattle.tally.proofs.Periods.{dues}
 
 module _ (test : FiguresOfTask → Bool) where

@@ -7,7 +7,7 @@
 --   periodic_tasks p ts       each task that stands is fit for a periodic book of the processor, and their hyperperiod is at most 60,000,000 µs
 --   sporadic_tasks p ts       each task that stands is fit for a sporadic book of the processor
 --   Match t u                 clock and capacity are equal, and the tasks the same but for a renumbering of the ports
-use Rattle.std.specs.Prelude.{◌≡◌, ℕ, Bool, true, false, ◌&&◌, List, Some, None, Option, nat_le}
+use Rattle.std.specs.Prelude.{◌≡◌, Bool, true, false, ◌&&◌, List, Some, None, Option, nat_le}
 use Rattle.std.specs.List.{list_all}
 use Rattle.board.specs.declared.dues.Due.{Due}
 use Rattle.board.specs.declared.dues.Due.TheVariants.{Period, Deadline}

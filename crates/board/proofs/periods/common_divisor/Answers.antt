@@ -1,4 +1,4 @@
-use Rattle.std.proofs.Common.{◌≡◌, ℕ, ◌%◌, sym, subst}
+use Rattle.std.proofs.Common.{◌≡◌, sym, subst}
 use Prim.Native.Nat.{◌∣◌}
 use native.Mathlib.Nat.{dvd_refl, dvd-zero, dvd-mod_iff}
 use Rattle.board.proofs.periods.common_divisor.Goals as goal

@@ -1,6 +1,6 @@
-use Rattle.std.proofs.Common.{◌≡◌, ◌*◌, ◌/◌, ◌<◌, ◌≤◌, sym, subst, mul-le-mul, div-le_self, arith}
+use Rattle.std.proofs.Common.{◌/◌, ◌≤◌, sym, subst, mul-le-mul, div-le_self, arith}
 use native.Mathlib.Nat.{pos_of_dvd_of_pos}
-use Rattle.board.specs.Periods.{lcm, LeastMultiple}
+use Rattle.board.specs.Periods.{LeastMultiple}
 use Rattle.board.proofs.Multiples.{by_divisor, lcm_is_least}
 use Rattle.board.proofs.periods.common_multiple.Goals as goal
 

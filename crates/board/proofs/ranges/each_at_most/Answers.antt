@@ -1,4 +1,4 @@
-use Rattle.std.proofs.Common.{◌≡◌, ℕ, Bool, leb, get_or, sym, ◌∙◌, arith}
+use Rattle.std.proofs.Common.{leb, get_or, sym, ◌∙◌, arith}
 use Rattle.std.proofs.lemmas.Bool.{le-leb, lt-leb}
 use Rattle.board.proofs.Passing.{pass_more, pass_fails, pass_all}
 use Rattle.board.proofs.ranges.each_at_most.Goals as goal

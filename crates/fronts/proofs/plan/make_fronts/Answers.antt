@@ -9,7 +9,6 @@ use Rattle.fronts.proofs.Advancing.{next_row}
 use Rattle.fronts.proofs.Bounding.{rows_from, rows_end}
 use Rattle.fronts.proofs.Progress.{Progress, begins, goes_on, stops, ends}
 use Rattle.fronts.proofs.Rowing.{done_more}
-use Rattle.fronts.proofs.plan.make_fronts.Given as given
 use Rattle.fronts.proofs.plan.make_fronts.Goals as goal
 
 pub loop-i-init : goal.loop-i-init

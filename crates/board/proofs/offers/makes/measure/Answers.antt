@@ -1,10 +1,8 @@
-use Rattle.std.proofs.Common.{◌≡◌, ◌+◌, ◌*◌, ◌≤◌, mul-le-mul, arith}
+use Rattle.std.proofs.Common.{◌≡◌, ◌+◌, ◌*◌, mul-le-mul, arith}
 use Rattle.std.proofs.lemmas.Bool.{leb-true}
 use Rattle.board.specs.declared.measures.Measure.{Measure}
-use Rattle.board.specs.Tasks.{busy_time}
-use Rattle.board.specs.Measures.{draw, measure}
+use Rattle.board.specs.Measures.{measure}
 use Rattle.board.specs.Views.{processor_figures, task_figures}
-use Rattle.board.proofs.Bounds.{Bounded}
 use Rattle.board.proofs.Offering.{bounded}
 use Rattle.board.proofs.offers.makes.measure.Goals as goal
 

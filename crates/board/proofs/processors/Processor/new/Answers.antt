@@ -3,7 +3,6 @@ use Rattle.std.proofs.lemmas.Bool.{and_from, cond-true}
 use Rattle.board.specs.declared.faults.Fault.{Fault}
 use Rattle.board.specs.declared.faults.Fault.TheVariants.{BadProcessor}
 use Rattle.board.specs.Processors.{ProcessorFigures, levels_fit, standby_fits, processor_fits}
-use Rattle.board.specs.Views.{processor_figures}
 use Rattle.board.proofs.Judging.{levels_judged, standby_judged}
 use Rattle.board.proofs.processors.Processor.new.Goals as goal
 

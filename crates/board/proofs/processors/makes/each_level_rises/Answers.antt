@@ -1,4 +1,4 @@
-use Rattle.std.proofs.Common.{◌≡◌, ◌+◌, ◌-◌, drop, sym, ap, ◌∙◌, arith}
+use Rattle.std.proofs.Common.{drop, sym, ap, ◌∙◌, arith}
 use Rattle.board.specs.Processors.{rising}
 use Rattle.board.proofs.Rising.{rises_more, rises_fails, rises_all}
 use Rattle.board.proofs.processors.makes.each_level_rises.Goals as goal

@@ -1,7 +1,7 @@
-use Rattle.std.proofs.Common.{◌≡◌, ◌-◌, ◌<◌, ◌≤◌, true, leb, length, get_or, sym, ap, ◌∙◌, subst, arith}
+use Rattle.std.proofs.Common.{◌≡◌, ◌-◌, true, leb, length, get_or, sym, ap, ◌∙◌, subst, arith}
 use Rattle.board.specs.declared.levels.Level.{Level}
 use Rattle.board.specs.Processors.{levels_fit}
-use Rattle.board.specs.Tasks.{busy_time, top_speed, time_left}
+use Rattle.board.specs.Tasks.{busy_time, top_speed}
 use Rattle.board.specs.Views.{processor_figures}
 use Rattle.board.proofs.Leveling.{level_within, some_level, top_last}
 use Rattle.board.proofs.tasks.makes.quick_enough.Goals as goal

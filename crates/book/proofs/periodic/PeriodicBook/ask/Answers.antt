@@ -1,4 +1,4 @@
-use Rattle.std.proofs.Common.{◌≡◌, length, sym, ap, ◌∙◌}
+use Rattle.std.proofs.Common.{length, sym, ap, ◌∙◌}
 use Rattle.plans.specs.Plans.{list_after, levels_after}
 use Rattle.tally.specs.Plans.{periodic_rows_of}
 use Rattle.tally.proofs.Refusing.{trial_stays}

@@ -1,8 +1,7 @@
-use Rattle.std.proofs.Common.{◌≡◌, length, ap, ◌∙◌}
+use Rattle.std.proofs.Common.{length, ap, ◌∙◌}
 use Rattle.board.specs.Views.{processor_figures}
 use Rattle.plans.specs.Plans.{planned, list_after, levels_after}
 use Rattle.plans.specs.Boards.{standing, joint_period, periodic_limit}
-use Rattle.fronts.specs.Rows.{rows_of}
 use Rattle.fronts.specs.Views.{listed_rows}
 use Rattle.book.specs.Tasks.{figures_of}
 use Rattle.book.proofs.Adding.{few_levels}

@@ -1,4 +1,4 @@
-use Rattle.std.proofs.Common.{◌≡◌, map, length, sym, ◌∙◌, subst}
+use Rattle.std.proofs.Common.{map, length, sym, ◌∙◌, subst}
 use base.Stored.{Coded-set}
 use Rattle.board.specs.Views.{processor_figures}
 use Rattle.tally.specs.Steps.{life}

@@ -7,7 +7,7 @@ use Rattle.plans.specs.Choices.{Row}
 use Rattle.plans.specs.Plans.{planned, list_after, levels_after}
 use Rattle.plantext.specs.declared.answers.Outcome.{Outcome}
 use Rattle.tally.specs.Plans.{at_capacity, periodic_rows_of, periodic_trial}
-use Rattle.jobtext.specs.Calls.{CallOfJob, to_plan, to_try}
+use Rattle.jobtext.specs.Calls.{to_try}
 use Rattle.jobtext.specs.Books.{JobBook, book_view}
 use Rattle.jobtext.specs.Made.{Comes, rows_in, given, asked, made, no_levels}
 use Rattle.jobtext.specs.Places.{call_figures}

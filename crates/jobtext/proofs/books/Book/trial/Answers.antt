@@ -1,9 +1,8 @@
-use Rattle.std.proofs.Common.{◌≡◌, length, sym, ap, ◌∙◌}
+use Rattle.std.proofs.Common.{length, sym, ap, ◌∙◌}
 use Rattle.plans.specs.Plans.{list_after, levels_after}
 use Rattle.tally.specs.Plans.{at_capacity, periodic_rows_of, periodic_trial}
 use Rattle.tally.proofs.Refusing.{trial_stays}
 use Rattle.book.specs.Views.{periodic_figures}
-use Rattle.jobtext.specs.declared.books.Book.{Book}
 use Rattle.jobtext.specs.declared.headers.Rule.TheVariants.{Periodic}
 use Rattle.jobtext.specs.Books.{job_book, book_view}
 use Rattle.jobtext.proofs.books.Book.trial.Goals as goal

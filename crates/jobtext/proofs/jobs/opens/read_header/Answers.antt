@@ -1,4 +1,4 @@
-use Rattle.std.proofs.Common.{◌≡◌, ℕ, ◌+◌, ◌-◌, ◌≤◌, true, length, sym, ap, ◌∙◌, arith, length-take}
+use Rattle.std.proofs.Common.{◌-◌, length, sym, ap, ◌∙◌, arith, length-take}
 use Rattle.std.proofs.lemmas.Result.{err_from_is_err_and}
 use Rattle.board.specs.Views.{processor_figures}
 use Rattle.plantext.specs.declared.faults.JobFault.TheVariants.{Refused}

@@ -1,4 +1,4 @@
-use Rattle.std.proofs.Common.{◌≡◌, ◌≤◌, length, sym, ap, ◌∙◌, arith}
+use Rattle.std.proofs.Common.{length, sym, ap, ◌∙◌, arith}
 use Rattle.board.specs.Processors.{ProcessorFigures}
 use Rattle.jobtext.specs.Books.{JobBook, book_view}
 use Rattle.jobtext.specs.Places.{place, call_figures}

@@ -1,4 +1,4 @@
-use Rattle.std.proofs.Common.{◌≡◌, ◌-◌, length, take, drop, sym, ap, ◌∙◌, arith, ltb-true}
+use Rattle.std.proofs.Common.{◌-◌, length, take, drop, sym, ap, ◌∙◌, arith, ltb-true}
 use Rattle.std.proofs.lemmas.List.{take_rest}
 use Rattle.jobtext.specs.Lines.{behind}
 use Rattle.jobtext.proofs.Cutting.{behind_none, behind_more}
