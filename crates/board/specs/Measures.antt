@@ -9,7 +9,7 @@
 --   counts_in h due       the period divides the hyperperiod
 --   belongs p t h         t has one share for each device of p, and its period divides h
 --   offer_if p t h n      the offer, if the task belongs
---   AtOfferedLevel m    some admissible task has the measure m at an offered level of some admissible processor
+--   AtOfferedLevel m      some admissible task has the measure m at an offered level of some admissible processor
 --   Offered m             there is such a task: what exactly the measures of offered levels are
 use Rattle.std.specs.Prelude.{◌≡◌, ℕ, zero, suc, ◌+◌, ◌*◌, ◌/◌, ◌%◌, ◌≤◌, Bool, true, cond, ◌&&◌, ◌⊎◌, List, [], ◌∷◌, length, Some, None, Option, ◌==◌, nat_le}
 use Rattle.std.specs.List.{list_all}

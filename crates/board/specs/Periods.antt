@@ -4,9 +4,9 @@
 --   lcm a b               the first of a, 2 a, 3 a, .. that b divides: it comes by the time of b a
 --   hyperperiod ps        the least common multiple of the periods, 1 of none
 --   longest               no hyperperiod is above 60,000,000 µs
---   GreatestDivisor a b g  g divides both a and b, and whatever divides both divides g
---   LeastMultiple a b m  both a and b divide m, and m divides whatever they both divide
---   OfPeriods h          h is the hyperperiod of some periods in range, and at least doubles with each of them
+--   GreatestDivisor a b g   g divides both a and b, and whatever divides both divides g
+--   LeastMultiple a b m   both a and b divide m, and m divides whatever they both divide
+--   OfPeriods h           h is the hyperperiod of some periods in range, and at least doubles with each of them
 --   hyperperiod_with h p  the least common multiple with one period more; none if the period does not fit or it is too long
 use Rattle.std.specs.Prelude.{◌≡◌, ℕ, zero, suc, ◌+◌, ◌%◌, ◌^◌, ◌≤◌, Bool, true, cond, ◌&&◌, List, [], ◌∷◌, length, Some, None, Option, ◌==◌, nat_le}
 use Rattle.std.specs.Int.{◌∣◌}

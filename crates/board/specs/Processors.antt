@@ -1,8 +1,8 @@
 -- A processor by its figures, and which figures are admissible.
---   ProcessorFigures    the levels from level 0 on, and the standby power of each device, in mW
+--   ProcessorFigures     the levels from level 0 on, and the standby power of each device, in mW
 --   between low high n   n is low or more, and high or less
 --   level_fits l         a speed of 1 to 4,000 MHz and a power of 1 to 60,000 mW
---   LevelWithin l       the same, as facts
+--   LevelWithin l        the same, as facts
 --   below l m            m has more speed and more power than l
 --   rising ls            each level is below the next
 --   processor_fits p     1 to 8 levels, each in range, rising; 0 to 8 devices of 0 to 5,000 mW

@@ -1,5 +1,5 @@
 -- A task by its figures, and which figures are admissible.
---   FiguresOfTask            cycles, access energy of a job in nJ, share of each device in thousandths, and when it is due
+--   FiguresOfTask           cycles, access energy of a job in nJ, share of each device in thousandths, and when it is due
 --   figures_fit p t         1 to 1,000,000,000 cycles, access of 0 to 1,000,000 nJ, one share of 0 to 1,000 for each device of p
 --   period_in_range due     if it is a period, it is in range
 --   due_fits clock due      the period is in range; a deadline is 1 to 60,000,000 µs after the clock

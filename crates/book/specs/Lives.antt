@@ -6,7 +6,7 @@
 --   LifeOfPeriodic k p calls q room buffer book r list levels
 --       the life of a periodic book of p: the book after the calls, asked with a list of `room` places and a levels buffer of
 --       `buffer` bytes, stands as its tally says, and answers r as defined on that tally, with all that is promised of r
---   LifeOfSporadic                the same of a sporadic book, asked for a plan
+--   LifeOfSporadic               the same of a sporadic book, asked for a plan
 use Rattle.std.specs.Prelude.{◌≡◌, ℕ, ◌≤◌, Bool, true, List, Result}
 use Rattle.board.specs.declared.faults.Fault.{Fault}
 use Rattle.board.specs.Processors.{ProcessorFigures, between}

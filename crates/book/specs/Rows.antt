@@ -1,5 +1,5 @@
 -- Rows as the planner's code takes them, at no price yet.
---   PlainRow                 a port, its limit in µs, and for each of 8 levels the measure of the task, if that level is offered
+--   PlainRow                  a port, its limit in µs, and for each of 8 levels the measure of the task, if that level is offered
 --   measures_of os            the measures of a row's offers
 --   plain_row r               a row of the planner's
 --   standing_row p h limit s  the row of a standing task under a hyperperiod

@@ -4,7 +4,7 @@ ghost use Rattle.std.specs.List.{range_with_len};
 ghost use Rattle.board.specs.Measures.{offer_if};
 ghost use Rattle.board.specs.Views.{processor_figures, task_figures};
 ghost use Rattle.tally.specs.Boards.{periodic_tasks, sporadic_tasks};
-ghost use Rattle.plans.specs.Boards.{joint_period, periodic_limit as limit_of, sporadic_limit as time-to, standing};
+ghost use Rattle.plans.specs.Boards.{joint_period, periodic_limit as limit_of, sporadic_limit as time_to, standing};
 ghost use Rattle.fronts.specs.Views.{listed_rows};
 ghost use Rattle.book.specs.Tasks.{figures_of};
 ghost use Rattle.book.specs.Rows.{measures_of, plain_row, standing_row, periodic_plain_rows, sporadic_plain_rows};
@@ -92,7 +92,7 @@ pub(crate) fn periodic_rows(
 
 // The limit of a sporadic row: the time from the clock to the deadline, 0 once that is reached.
 fn sporadic_limit(deadline: u64, clock: u64) -> u64
-    ensures { result ≡ time-to deadline clock }
+    ensures { result ≡ time_to deadline clock }
 {
     deadline.saturating_sub(clock)
 }

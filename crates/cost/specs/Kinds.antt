@@ -3,10 +3,10 @@
 --   most_entries      a total has at most 48 entries
 --   Sum k n c         c is a sum of n entries of the kind k, in some order and with any brackets
 --   Total k c         c is zero, an entry, or a sum of at most 48 entries
---   NoDearer k a b   a is no dearer than b
+--   NoDearer k a b    a is no dearer than b
 --   Cheaper k a b     a is no dearer than b, and not equal to it
 --   Laws k            what every kind keeps, wherever the sums named are totals
---   StrictLaws k     what a strict kind keeps: the laws, and one more
+--   StrictLaws k      what a strict kind keeps: the laws, and one more
 use Rattle.std.specs.Prelude.{◌≡◌, ℕ, ◌+◌, ◌≤◌, Bool, cond, T, ◌⊎◌, Some, None, Option, ◌≢◌}
 use Rattle.board.specs.declared.measures.Measure.{Measure}
 use Rattle.board.specs.Measures.{Offered}

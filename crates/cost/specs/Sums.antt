@@ -2,9 +2,9 @@
 --   Entries k es       each of es is a sum of one entry of the kind k
 --   total_of k es      zero, and then the entries from the last of es to the first
 --   Reordered xs ys    ys is xs in another order
---   NeverDeclined k   pricing answers every measure of an offered level, and addition every sum of at most 48 entries that takes one entry more
---   OrderKept k       one entry more keeps the order of two sums of fewer than 48 entries
---   AnyOrder k        at most 48 entries have one total, whatever their order
+--   NeverDeclined k    pricing answers every measure of an offered level, and addition every sum of at most 48 entries that takes one entry more
+--   OrderKept k        one entry more keeps the order of two sums of fewer than 48 entries
+--   AnyOrder k         at most 48 entries have one total, whatever their order
 use Rattle.std.specs.Prelude.{◌≡◌, ℕ, ◌<◌, ◌≤◌, List, [], ◌∷◌, length, Some}
 use Rattle.std.specs.List.{AllByRecursion}
 use Rattle.board.specs.declared.measures.Measure.{Measure}

@@ -1,6 +1,6 @@
 -- The way back through the list of states, and the levels that it picks.
 --   first_position k done later      the position in the list, counted from 1, of the first pair of the front of the rows done; 0 of no rows
---   FrontsStand k rs list last      rs are the rows of a board whose smallest loads keep the limits; the list begins with their fronts, the last of them at the position last
+--   FrontsStand k rs list last       rs are the rows of a board whose smallest loads keep the limits; the list begins with their fronts, the last of them at the position last
 --   picked k rows                    for each port from 1 to 48 the level that the plan gives its row, none where the port has no row
 use Rattle.std.specs.Prelude.{◌≡◌, ℕ, ◌+◌, ◌≤◌, true, T, List, [], ◌∷◌, map, reverse, length, take, Option}
 use Rattle.std.specs.List.{range_with_len}

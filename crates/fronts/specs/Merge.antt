@@ -8,8 +8,8 @@
 --   Kept count kept old out r     after one candidate more: what is kept, the last one in front, stands behind the first `count`, and ends where the answer r says; or there is no room for it
 --   Outcome count new old out r   after the step: `new` stands behind the first `count`, the rest is as it was, and the answer r is its size; or there is no room for it, and the first `count` are as they were
 --   Light rows               no offer of the rows has a load of more than 60,000,000 µs
---   NextRow ps os bound row done later    what the step is told: ps is the front of the rows done, os are the offers of the row, and the row admits just the sums of loads up to the bound
---   SomeNextRow ps os bound              there are rows of which that holds
+--   NextRow ps os bound row done later     what the step is told: ps is the front of the rows done, os are the offers of the row, and the row admits just the sums of loads up to the bound
+--   SomeNextRow ps os bound                there are rows of which that holds
 use Rattle.std.specs.Prelude.{◌≡◌, ℕ, ◌+◌, ◌^◌, ◌<◌, ◌≤◌, cond, T, List, [], ◌∷◌, map, reverse, length, take, Some, None, Ok, Err, Option, Result, ◌==◌, nat_le, slice_index_or}
 use Rattle.std.specs.List.{slice_get}
 use Rattle.cost.specs.Kinds.{Meaning, most_entries}

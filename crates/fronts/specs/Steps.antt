@@ -1,8 +1,8 @@
 -- The steps of planning.
 --   price_of k o                 what a level offers, at the price of the kind
---   LastFront rows list m       the last front stands in the list, where m says
---   LaidFronts rows old out m   all fronts stand in the list from its start on
---   MadeFronts rows old out r   so they do, or the first that has no room is named
+--   LastFront rows list m        the last front stands in the list, where m says
+--   LaidFronts rows old out m    all fronts stand in the list from its start on
+--   MadeFronts rows old out r    so they do, or the first that has no room is named
 --   Planned rows old out found left r   answer, list and levels buffer are as planning is defined
 use Rattle.std.specs.Prelude.{◌≡◌, ℕ, ◌+◌, ◌≤◌, List, [], reverse, length, take, drop, Some, None, Ok, Err, Option, Result}
 use Rattle.board.specs.declared.faults.Fault.{Fault}

@@ -1,6 +1,6 @@
 // Which sums of loads the limits leave open.
 ghost use Rattle.std.specs.Prelude.{◌≡◌, ℕ, ◌<◌, ◌≤◌, length, slice_index, slice_index_or};
-ghost use Rattle.plans.specs.Choices.{smallest as smallest-load};
+ghost use Rattle.plans.specs.Choices.{smallest as smallest_load};
 ghost use Rattle.plans.specs.Plans.{none_fits};
 ghost use Rattle.fronts.specs.Rows.{offers_from, rows_of, lesser, bound_at};
 
@@ -21,7 +21,7 @@ fn lesser_of(least: Option<u64>, figure: u64) -> u64
 
 // The smallest load that a row offers, in µs.
 pub(crate) fn smallest<K: Kind>(offers: &[Option<Offer>; 8]) -> u64
-    ensures value { result ≡ smallest-load (offers_from K.Kind.meaning offers.now 0 8) }
+    ensures value { result ≡ smallest_load (offers_from K.Kind.meaning offers.now 0 8) }
     ensures bound { result ≤ 60000000 }
 {
     let mut least: Option<u64> = None;

@@ -14,7 +14,7 @@ ghost use Rattle.plans.specs.Choices.{Row};
 ghost use Rattle.plans.specs.Places.{next_places};
 ghost use Rattle.plans.specs.Plans.{laid};
 ghost use Rattle.fronts.specs.ByLevel.{by_level};
-ghost use Rattle.fronts.specs.Merging.{sum_of, state_of, sum_at, heads_of, cheaper as first-cheaper, cheapest as cheapest-head, keep};
+ghost use Rattle.fronts.specs.Merging.{sum_of, state_of, sum_at, heads_of, cheaper as first_cheaper, cheapest as cheapest_head, keep};
 ghost use Rattle.fronts.specs.Merge.{before, size, offer_at, Fitting, comparison, Outcome, Kept, NextRow, SomeNextRow};
 
 use crate::by_level::ByLevel;
@@ -136,7 +136,7 @@ fn first_heads<K: Kind>(
 
 // The cheaper of the two, the one found first at equal cost.
 fn cheaper<K: Kind>(found: Option<State<K>>, offered: State<K>) -> Option<State<K>>
-    ensures { result ≡ first-cheaper K.Kind.meaning found (Some offered) }
+    ensures { result ≡ first_cheaper K.Kind.meaning found (Some offered) }
 {
     match found {
         None => Some(offered),
@@ -157,7 +157,7 @@ fn cheapest<K: Kind>(
     base: usize,
 ) -> Option<State<K>>
     requires positions { (level : ℕ) (sum : ℕ × K) → slice_index_or (by_level heads.now) level None ≡ Some sum → base + slice_index cursors.now level < 2 ^ 64 }
-    ensures { result ≡ cheapest-head K.Kind.meaning (heads_of base (by_level heads.now) cursors.now) 8 }
+    ensures { result ≡ cheapest_head K.Kind.meaning (heads_of base (by_level heads.now) cursors.now) 8 }
 {
     let mut found: Option<State<K>> = None;
     for level in 0..8 {

@@ -1,6 +1,6 @@
 // The plan of a board's rows.
 ghost use Rattle.std.specs.Prelude.{◌≡◌, ℕ, ◌+◌, ◌^◌, ◌<◌, ◌≤◌, true, T, length, None, Ok, slice_index, slice_index_or};
-ghost use Rattle.plans.specs.Choices.{fits as loads-fit};
+ghost use Rattle.plans.specs.Choices.{fits as loads_fit};
 ghost use Rattle.fronts.specs.ByLevel.{by_level};
 ghost use Rattle.fronts.specs.Rows.{rows_fit, rows_of, bound_at};
 ghost use Rattle.plans.specs.Places.{best};
@@ -74,7 +74,7 @@ fn make_fronts<K: Kind>(
 ) -> Result<Made, Fault>
     requires few { length rows.now ≤ 48 }
     requires fit { rows_fit rows.now ≡ true }
-    requires loads { T (loads-fit 0 (rows_of K.Kind.meaning rows.now)) }
+    requires loads { T (loads_fit 0 (rows_of K.Kind.meaning rows.now)) }
     requires bounds { (i : ℕ) (row : Row) → i < length rows.now → row ≡ slice_index_or rows.now i row → slice_index bounds.now i ≡ bound_at K.Kind.meaning rows.now i row }
     ensures { MadeFronts K.Kind.meaning (rows_of K.Kind.meaning rows.now) list.old list.new result }
 {
@@ -104,7 +104,7 @@ fn make_fronts<K: Kind>(
 fn best_pair<K: Kind>(rows: &[Row], list: &[State<K>], made: Made) -> (u64, K)
     requires few { length rows.now ≤ 48 }
     requires fit { rows_fit rows.now ≡ true }
-    requires loads { T (loads-fit 0 (rows_of K.Kind.meaning rows.now)) }
+    requires loads { T (loads_fit 0 (rows_of K.Kind.meaning rows.now)) }
     requires last { LastFront K.Kind.meaning (rows_of K.Kind.meaning rows.now) list.now made }
     ensures { result ≡ ((best K.Kind.meaning (rows_of K.Kind.meaning rows.now)).load, (best K.Kind.meaning (rows_of K.Kind.meaning rows.now)).cost) }
 {

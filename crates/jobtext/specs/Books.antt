@@ -1,5 +1,5 @@
 -- The book of a job, of either rule.
---   JobBook          a rule, and the figures of a book of that rule
+--   JobBook           a rule, and the figures of a book of that rule
 --   book_view b       what the book of a job stands for
 --   booked rule p     a new book of the rule
 use Rattle.board.specs.Processors.{ProcessorFigures}

@@ -1,5 +1,5 @@
 -- The calls of a job text.
---   CallOfJob             what a call asks of the book: a change of what stands, a plan, or a trial at a capacity
+--   CallOfJob            what a call asks of the book: a change of what stands, a plan, or a trial at a capacity
 --   takes rule word      books of this rule take calls of this word
 --   word_of rule v       the word of a call that books of this rule take
 --   due_key rule         the key of the time at which a task is due

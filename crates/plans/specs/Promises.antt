@@ -2,25 +2,25 @@
 --   Priced k rows               each entry is one of the kind: a sum of one
 --   Rows k rows                 what a board's rows are: at most 48, each with an offer, each entry one of the kind
 --   Measured p h s              the standing task has an offered level, and at each of them the measure of an admissible task
---   BoardsHaveRows k          at most 48 such tasks have such rows, periodic or sporadic
+--   BoardsHaveRows k            at most 48 such tasks have such rows, periodic or sporadic
 --   Ahead k p q                 q is dearer than p, and lighter
 --   Falls k ps                  from each pair to those behind it costs rise and loads fall, strictly
 --   Reached k done later p      p is the pair of an open beginning
 --   Leads k done later p        so it is, and no other such pair beats it
---   FrontOf k done later ps    ps falls, and its members are just the pairs that lead
---   OneFront k                 the front is such a list, and the only one
+--   FrontOf k done later ps     ps falls, and its members are just the pairs that lead
+--   OneFront k                  the front is such a list, and the only one
 --   admits row later n          the sum of loads n is within the row's limit, and leaves the later rows open
 --   bound row later             the largest sum of loads that the row admits, where it admits any
 --   extended k row later ps     the open pairs that the row's offers make of the pairs ps
---   FrontFromFront k          the front of one row more is the unbeaten part of the open extensions of the front alone
---   AChoice rows c             c is one of the choices
+--   FrontFromFront k            the front of one row more is the unbeaten part of the open extensions of the front alone
+--   AChoice rows c              c is one of the choices
 --   Best k rows c               c keeps every limit; a choice that does costs at least as much, and at equal cost has at least that load
---   PlanOf k rows f            the levels of the plan are a best choice, and its cost and load are that choice's
---   PlansBest k                every plan that is given is such a plan
+--   PlanOf k rows f             the levels of the plan are a best choice, and its cost and load are that choice's
+--   PlansBest k                 every plan that is given is such a plan
 --   Ports rows                  each row has a port of its own, from 1 to 48
---   LevelsTold k               after a plan the byte of a row's port is the level that the plan gives the row, and that of any other port is 255
---   NoChoice rows              no choice keeps every limit
---   NoneFitsExactly k         with 48 bytes for the levels, 32 is answered exactly if no choice keeps every limit, whatever the length of the list
+--   LevelsTold k                after a plan the byte of a row's port is the level that the plan gives the row, and that of any other port is 255
+--   NoChoice rows               no choice keeps every limit
+--   NoneFitsExactly k           with 48 bytes for the levels, 32 is answered exactly if no choice keeps every limit, whatever the length of the list
 --   Matched one other           the same rows at other ports, where rows of one limit may have changed places
 --   Renumbered k                best choices of matched rows have one cost and one load
 use Rattle.std.specs.Prelude.{◌≡◌, ℕ, ◌-◌, ◌<◌, ◌≤◌, min, Bool, not, ◌&&◌, T, List, [], ◌∷◌, length, Some, Ok, Err, filter, Result, ◌≢◌, nat_le, slice_index}

@@ -3,7 +3,7 @@
 --   plain most bs           there are 1 to `most` bytes, and no zero leads others
 --   number_within most bs   the number that the bytes write in at most `most` digits, if they do
 --   number_of bs            the same at 15 digits, which the numbers of job text have at most
---   WrittenReadBack       every number below 10 ^ 15, written in decimal, is read back as itself
+--   WrittenReadBack         every number below 10 ^ 15, written in decimal, is read back as itself
 use Rattle.std.specs.Prelude.{◌≡◌, ℕ, ◌+◌, ◌-◌, ◌*◌, ◌^◌, ◌<◌, Bool, cond, not, ◌&&◌, ◌||◌, List, [], ◌∷◌, length, Some, None, decimal, Option, ◌==◌, nat_le, slice_index}
 
 abbrev pub read_on : ℕ → List ℕ → Option ℕ

@@ -1,5 +1,5 @@
 -- A book by its figures, and what its calls answer and leave.
---   BookFigures         the processor and the tally
+--   BookFigures          the processor and the tally
 --   opened r             a new book of the processor, or the fault of its figures
 --   answer b call        what the call answers: the first refusal that applies, if one does
 --   after b call         the book after the call: the processor stays, and the tally makes one step

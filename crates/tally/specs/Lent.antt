@@ -7,6 +7,7 @@
 --   LentCall               a call, with the places of the list and the bytes of the buffer that it may use, if it is a plan or a trial
 --   in_none call           a call that uses nothing of what is lent
 --   lent_plan places bytes, lent_trial capacity places bytes    a plan, and a trial at this capacity, in so many places and bytes
+--   left_by b call places bytes found left    what a call that may use so many places and bytes leaves, made of the book b
 --   lent_after b call found left    what the call leaves, made of the book b: all as found, unless it is a plan or a trial
 --   Leaves b calls found left       a book b that follows the calls leaves `left`: each call, made of the book that the calls before it
 --       left, leaves exactly that of what those left. The list stays as long as it is

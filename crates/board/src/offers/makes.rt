@@ -3,7 +3,7 @@ ghost use Rattle.std.specs.Prelude.{◌≡◌, ◌+◌, ◌*◌, ◌≤◌, true
 ghost use Rattle.std.specs.Option.{option_map};
 ghost use Rattle.board.specs.Processors.{standby_fits, LevelWithin};
 ghost use Rattle.board.specs.Tasks.{shares_fit, period_in_range};
-ghost use Rattle.board.specs.Measures.{standby_sum, most_time, counts_in, jobs as jobs-in, offered, measure as measured, belongs as belongs-to, offer_if};
+ghost use Rattle.board.specs.Measures.{standby_sum, most_time, counts_in, jobs as jobs_in, offered, measure as measured, belongs as belongs_to, offer_if};
 ghost use Rattle.board.specs.Views.{processor_figures, task_figures};
 
 use super::Offer;
@@ -41,7 +41,7 @@ fn counts_in(due: Due, hyperperiod: u64) -> bool
 // How often the task runs in the hyperperiod.
 fn jobs(due: Due, hyperperiod: u64) -> u64
     requires { period_in_range due ≡ true }
-    ensures { result ≡ jobs-in hyperperiod due }
+    ensures { result ≡ jobs_in hyperperiod due }
 {
     match due {
         Due::Period(period) => hyperperiod / period,
@@ -69,7 +69,7 @@ fn is_offered(task: &Task, level: Level) -> bool
 
 // The task has a share for each device, and a periodic one stands in the hyperperiod.
 fn belongs(processor: &Processor, task: &Task, hyperperiod: u64) -> bool
-    ensures { result ≡ belongs-to (processor_figures processor.now) (task_figures task.now) hyperperiod }
+    ensures { result ≡ belongs_to (processor_figures processor.now) (task_figures task.now) hyperperiod }
 {
     task.shares().len() == processor.standby().len() && counts_in(task.due(), hyperperiod)
 }

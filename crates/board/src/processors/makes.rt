@@ -50,7 +50,7 @@ fn each_level_rises(levels: &[Level]) -> bool
 impl Processor {
     // The processor with these levels, from level 0 on, and these devices.
     pub fn new(levels: &[Level], standby: &[u64]) -> Result<Processor, Fault>
-        ensures { processor_view result ≡ processor_made (record { levels = levels.entry.now; standby = standby.now }) }
+        ensures { processor_view result ≡ processor_made (record { levels = levels.now; standby = standby.now }) }
     {
         if levels.len() < 1 || levels.len() > 8 || standby.len() > 8 {
             return Err(Fault::BadProcessor);

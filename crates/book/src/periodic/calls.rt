@@ -4,7 +4,7 @@ ghost use Rattle.board.specs.declared.dues.Due.TheVariants.{Period};
 ghost use Rattle.board.specs.Processors.{processor_made};
 ghost use Rattle.board.specs.Views.{processor_figures};
 ghost use Rattle.tally.specs.Tally.{new_tally, admit as admitting, retire as retiring, set_capacity};
-ghost use Rattle.tally.specs.Books.{book_figures, opened, answer as answer-to, after};
+ghost use Rattle.tally.specs.Books.{book_figures, opened, answer as answer_to, after};
 ghost use Rattle.book.specs.Tasks.{task_of};
 ghost use Rattle.book.specs.Views.{periodic_figures, periodic_view};
 
@@ -32,7 +32,7 @@ impl PeriodicBook {
 
     // An empty book of the processor with these levels, from level 0 on, and these devices.
     pub fn new(levels: &[Level], standby: &[u64]) -> Result<PeriodicBook, Fault>
-        ensures { periodic_view result ≡ opened (processor_made (record { levels = levels.entry.now; standby = standby.now })) }
+        ensures { periodic_view result ≡ opened (processor_made (record { levels = levels.now; standby = standby.now })) }
     {
         let processor = Processor::new(levels, standby)?;
         Ok(PeriodicBook::of(&processor))
@@ -48,7 +48,7 @@ impl PeriodicBook {
         shares: &[u64],
         period: u64,
     ) -> Result<(), Fault>
-        ensures answer { result ≡ answer-to (periodic_figures self.old) (admitting port (task_of cycles access shares.now (Period period))) }
+        ensures answer { result ≡ answer_to (periodic_figures self.old) (admitting port (task_of cycles access shares.now (Period period))) }
         ensures book { periodic_figures self.new ≡ after (periodic_figures self.old) (admitting port (task_of cycles access shares.now (Period period))) }
     {
         let place = free_place(&self.tasks, port)?;
@@ -64,7 +64,7 @@ impl PeriodicBook {
 
     // Takes the task off its port.
     pub fn retire(&mut self, port: u64) -> Result<(), Fault>
-        ensures answer { result ≡ answer-to (periodic_figures self.old) (retiring port) }
+        ensures answer { result ≡ answer_to (periodic_figures self.old) (retiring port) }
         ensures book { periodic_figures self.new ≡ after (periodic_figures self.old) (retiring port) }
     {
         let place = taken_place(&self.tasks, port)?;
@@ -74,7 +74,7 @@ impl PeriodicBook {
 
     // Sets the capacity, in thousandths.
     pub fn capacity(&mut self, thousandths: u64) -> Result<(), Fault>
-        ensures answer { result ≡ answer-to (periodic_figures self.old) (set_capacity thousandths) }
+        ensures answer { result ≡ answer_to (periodic_figures self.old) (set_capacity thousandths) }
         ensures book { periodic_figures self.new ≡ after (periodic_figures self.old) (set_capacity thousandths) }
     {
         if !capacity_fits(thousandths) {

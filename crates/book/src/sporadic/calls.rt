@@ -4,7 +4,7 @@ ghost use Rattle.board.specs.declared.dues.Due.TheVariants.{Deadline};
 ghost use Rattle.board.specs.Processors.{processor_made};
 ghost use Rattle.board.specs.Views.{processor_figures};
 ghost use Rattle.tally.specs.Tally.{new_tally, admit as admitting, retire as retiring, serve as serving, set_clock};
-ghost use Rattle.tally.specs.Books.{book_figures, opened, answer as answer-to, after};
+ghost use Rattle.tally.specs.Books.{book_figures, opened, answer as answer_to, after};
 ghost use Rattle.book.specs.Tasks.{task_of};
 ghost use Rattle.book.specs.Views.{sporadic_figures, sporadic_view};
 
@@ -31,7 +31,7 @@ impl SporadicBook {
 
     // An empty book of the processor with these levels, from level 0 on, and these devices.
     pub fn new(levels: &[Level], standby: &[u64]) -> Result<SporadicBook, Fault>
-        ensures { sporadic_view result ≡ opened (processor_made (record { levels = levels.entry.now; standby = standby.now })) }
+        ensures { sporadic_view result ≡ opened (processor_made (record { levels = levels.now; standby = standby.now })) }
     {
         let processor = Processor::new(levels, standby)?;
         Ok(SporadicBook::of(&processor))
@@ -47,7 +47,7 @@ impl SporadicBook {
         shares: &[u64],
         deadline: u64,
     ) -> Result<(), Fault>
-        ensures answer { result ≡ answer-to (sporadic_figures self.old) (admitting port (task_of cycles access shares.now (Deadline deadline))) }
+        ensures answer { result ≡ answer_to (sporadic_figures self.old) (admitting port (task_of cycles access shares.now (Deadline deadline))) }
         ensures book { sporadic_figures self.new ≡ after (sporadic_figures self.old) (admitting port (task_of cycles access shares.now (Deadline deadline))) }
     {
         let place = free_place(&self.tasks, port)?;
@@ -67,7 +67,7 @@ impl SporadicBook {
 
     // Takes the task off its port.
     pub fn retire(&mut self, port: u64) -> Result<(), Fault>
-        ensures answer { result ≡ answer-to (sporadic_figures self.old) (retiring port) }
+        ensures answer { result ≡ answer_to (sporadic_figures self.old) (retiring port) }
         ensures book { sporadic_figures self.new ≡ after (sporadic_figures self.old) (retiring port) }
     {
         let place = taken_place(&self.tasks, port)?;
@@ -77,7 +77,7 @@ impl SporadicBook {
 
     // Takes cycles off the port's task, and the task off once it has none left.
     pub fn serve(&mut self, port: u64, cycles: u64) -> Result<(), Fault>
-        ensures answer { result ≡ answer-to (sporadic_figures self.old) (serving port cycles) }
+        ensures answer { result ≡ answer_to (sporadic_figures self.old) (serving port cycles) }
         ensures book { sporadic_figures self.new ≡ after (sporadic_figures self.old) (serving port cycles) }
     {
         let place = taken_place(&self.tasks, port)?;
@@ -89,7 +89,7 @@ impl SporadicBook {
 
     // Sets the clock, in µs.
     pub fn clock(&mut self, time: u64) -> Result<(), Fault>
-        ensures answer { result ≡ answer-to (sporadic_figures self.old) (set_clock time) }
+        ensures answer { result ≡ answer_to (sporadic_figures self.old) (set_clock time) }
         ensures book { sporadic_figures self.new ≡ after (sporadic_figures self.old) (set_clock time) }
     {
         if !clock_fits(self.clock, time) {

@@ -3,13 +3,13 @@ ghost use Rattle.std.specs.Prelude.{◌≡◌, true, length};
 ghost use Rattle.board.specs.Views.{processor_figures};
 ghost use Rattle.plans.specs.Plans.{planned, list_after, levels_after};
 ghost use Rattle.tally.specs.Tally.{admit as admitting, retire as retiring, serve as serving, set_capacity, set_clock};
-ghost use Rattle.tally.specs.Books.{answer as answer-to, after};
+ghost use Rattle.tally.specs.Books.{answer as answer_to, after};
 ghost use Rattle.tally.specs.Plans.{at_capacity, periodic_rows_of, periodic_trial};
 ghost use Rattle.book.specs.Tasks.{task_of};
 ghost use Rattle.jobtext.specs.declared.headers.Rule.TheVariants as rules;
 ghost use Rattle.jobtext.specs.Calls.{due_at, takes};
 ghost use Rattle.jobtext.specs.Books.{job_book, booked, book_view};
-ghost use Rattle.jobtext.specs.Made.{rows_in, done as of-change, given as of-plan, made, no_levels, Changed, Comes};
+ghost use Rattle.jobtext.specs.Made.{rows_in, done as of_change, given as of_plan, made, no_levels, Changed, Comes};
 ghost use Rattle.jobtext.specs.Places.{call_figures, word_in};
 
 use super::Book;
@@ -26,7 +26,7 @@ use plantext::answers::Outcome;
 
 // The answer of a call that changes what stands.
 fn done<K: Kind>(answer: Result<(), Fault>) -> Result<Outcome<K>, Fault>
-    ensures { result ≡ of-change answer }
+    ensures { result ≡ of_change answer }
 {
     match answer {
         Ok(()) => Ok(Outcome::Done),
@@ -36,7 +36,7 @@ fn done<K: Kind>(answer: Result<(), Fault>) -> Result<Outcome<K>, Fault>
 
 // The answer of a plan or a trial.
 fn given<K: Kind>(answer: Result<Figures<K>, Fault>) -> Result<Outcome<K>, Fault>
-    ensures { result ≡ of-plan answer }
+    ensures { result ≡ of_plan answer }
 {
     match answer {
         Ok(figures) => Ok(Outcome::Given(figures)),
@@ -73,7 +73,7 @@ impl Book {
         shares: &[u64],
         time: u64,
     ) -> Result<(), Fault>
-        ensures answer { result ≡ answer-to (book_view self.old).figures (admitting port (task_of cycles access shares.now (due_at (book_view self.old).rule time))) }
+        ensures answer { result ≡ answer_to (book_view self.old).figures (admitting port (task_of cycles access shares.now (due_at (book_view self.old).rule time))) }
         ensures book { book_view self.new ≡ job_book (book_view self.old).rule (after (book_view self.old).figures (admitting port (task_of cycles access shares.now (due_at (book_view self.old).rule time)))) }
     {
         match *self {
@@ -92,7 +92,7 @@ impl Book {
 
     // Takes the task off its port.
     fn retire(&mut self, port: u64) -> Result<(), Fault>
-        ensures answer { result ≡ answer-to (book_view self.old).figures (retiring port) }
+        ensures answer { result ≡ answer_to (book_view self.old).figures (retiring port) }
         ensures book { book_view self.new ≡ job_book (book_view self.old).rule (after (book_view self.old).figures (retiring port)) }
     {
         match *self {
@@ -124,7 +124,7 @@ impl Book {
     // Sets the capacity of a periodic book, in thousandths.
     fn capacity(&mut self, thousandths: u64) -> Result<(), Fault>
         requires { (book_view self.old).rule ≡ rules.Periodic }
-        ensures answer { result ≡ answer-to (book_view self.old).figures (set_capacity thousandths) }
+        ensures answer { result ≡ answer_to (book_view self.old).figures (set_capacity thousandths) }
         ensures book { book_view self.new ≡ job_book (book_view self.old).rule (after (book_view self.old).figures (set_capacity thousandths)) }
     {
         match *self {
@@ -163,7 +163,7 @@ impl Book {
     // Takes cycles off the port's task in a sporadic book.
     fn serve(&mut self, port: u64, cycles: u64) -> Result<(), Fault>
         requires { (book_view self.old).rule ≡ rules.Sporadic }
-        ensures answer { result ≡ answer-to (book_view self.old).figures (serving port cycles) }
+        ensures answer { result ≡ answer_to (book_view self.old).figures (serving port cycles) }
         ensures book { book_view self.new ≡ job_book (book_view self.old).rule (after (book_view self.old).figures (serving port cycles)) }
     {
         match *self {
@@ -179,7 +179,7 @@ impl Book {
     // Sets the clock of a sporadic book, in µs.
     fn clock(&mut self, time: u64) -> Result<(), Fault>
         requires { (book_view self.old).rule ≡ rules.Sporadic }
-        ensures answer { result ≡ answer-to (book_view self.old).figures (set_clock time) }
+        ensures answer { result ≡ answer_to (book_view self.old).figures (set_clock time) }
         ensures book { book_view self.new ≡ job_book (book_view self.old).rule (after (book_view self.old).figures (set_clock time)) }
     {
         match *self {
