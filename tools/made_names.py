@@ -7,7 +7,6 @@ import os, re, sys
 TOKEN = re.compile(r"(?<![\w\-'◌])([A-Za-z_0-9'+]+(?:-[A-Za-z_0-9'+]+)+)(?![\w\-'◌])")
 WORDS = ["invariant_of", "overflow_add", "overflow_sub", "overflow_mul", "overflow_cast", "overflow_shl", "overflow_step", "nonzero_div", "nonzero_rem", "offset_bounds", "slice_bounds", "in_ok", "in_err", "in_default", "from_residual", "range_with_len", "copy_from_slice", "type_inv", "is_ascii_digit"]
 FIXED = set(WORDS)
-KEEP = {"in-range", "in-time"}
 
 def idents(path):
     try:
