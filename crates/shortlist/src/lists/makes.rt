@@ -1,0 +1,61 @@
+// Making a short list, reading it and adding to it.
+ghost use Rattle.std.specs.Prelude.{◌≡◌, ◌+◌, ◌++◌, ◌∷◌, [], length, nat_le, nat_lt, cond};
+ghost use Rattle.std.specs.Option.{option_map};
+ghost use Rattle.shortlist.specs.Lists.{listed, joined, within};
+
+use super::ShortList;
+
+impl<T: Copy, const N: usize> ShortList<T, N> {
+    // No items. `fill` stands in the places until they are taken.
+    pub fn none(fill: T) -> ShortList<T, N>
+        ensures { listed result ≡ [] }
+    {
+        ShortList {
+            places: [fill; N],
+            count: 0,
+        }
+    }
+
+    // These items; none if they are more than N.
+    pub fn of(items: &[T], fill: T) -> Option<ShortList<T, N>>
+        ensures { option_map listed result ≡ within N items.now }
+    {
+        let mut list = ShortList::none(fill);
+        if list.extend(items) { Some(list) } else { None }
+    }
+
+    // The items, from the first on.
+    pub fn items(&self) -> &[T]
+        ensures { result.now ≡ listed self.now }
+    {
+        &self.places[..self.count]
+    }
+
+    // One item more, behind the others. False, and nothing changed, if there are N already.
+    pub fn push(&mut self, item: T) -> bool
+        ensures answer { result ≡ nat_le (length (listed self.old) + 1) N }
+        ensures items { listed self.new ≡ joined N (listed self.old) (item ∷ []) }
+    {
+        if self.count >= N {
+            return false;
+        }
+        self.places[self.count] = item;
+        self.count += 1;
+        true
+    }
+
+    // More items, behind the others. False, and nothing changed, if all would be more than N.
+    pub fn extend(&mut self, items: &[T]) -> bool
+        ensures answer { result ≡ nat_le (length (listed self.old) + length items.now) N }
+        ensures items { listed self.new ≡ joined N (listed self.old) items.now }
+    {
+        if items.len() > N - self.count {
+            return false;
+        }
+        let end = self.count + items.len();
+        let places = &mut self.places[..];
+        places[self.count..end].copy_from_slice(items);
+        self.count = end;
+        true
+    }
+}
