@@ -1,14 +1,14 @@
 -- What holds of each level of a processor that was not refused.
-use Rattle.std.proofs.Common.{◌≡◌, ℕ, zero, suc, ◌-◌, ◌<◌, ◌≤◌, true, List, [], ◌∷◌, length, get_or, Some, None, sym, refl, ap, ◌∙◌, subst, inl, inr, arith}
-use Rattle.std.specs.List.{list_all}
-use Rattle.std.proofs.lemmas.Bool.{leb-true, and_parts, cases_lt}
+use Rattle.std.proofs.Common.{◌≡◌, ℕ, suc, ◌-◌, ◌<◌, ◌≤◌, true, List, [], ◌∷◌, length, get_or, Some, refl, ap, ◌∙◌, subst, arith}
+use Rattle.std.specs.List.{list_all, slice_get}
+use Rattle.std.proofs.lemmas.Option.{slice_get_within, get_or_from_slice_get}
+use Rattle.std.proofs.lemmas.Bool.{leb-true, and_parts}
 use Rattle.board.specs.declared.levels.Level.{Level}
 use Rattle.board.specs.Processors.{level_fits, rising, levels_fit, between, LevelWithin}
 use Rattle.board.specs.Tasks.{top_speed}
-use Rattle.board.specs.Measures.{level_at}
 use Rattle.board.proofs.Passing.{pass_at}
 
-bounds : (low high n : ℕ) → between low high n ≡ true → (low ≤ n) × (n ≤ high)
+pub bounds : (low high n : ℕ) → between low high n ≡ true → (low ≤ n) × (n ≤ high)
 bounds low high n e = let p = and_parts _ _ e in (leb-true low n p.0, leb-true n high p.1)
 
 pub level_within : (ls : List Level) (i : ℕ) (d : Level) → levels_fit ls ≡ true → i < length ls → LevelWithin (get_or ls i d)
@@ -28,24 +28,5 @@ top_last (l ∷ (m ∷ ms)) d h =
     let e : suc (length (m ∷ ms) - 1) ≡ length (l ∷ (m ∷ ms)) - 1 = omega arith in
     top_last (m ∷ ms) d (omega arith) ∙ ap (λ n. (get_or (l ∷ (m ∷ ms)) n d).mhz) e
 
-pub level_there : (ls : List Level) (n : ℕ) (d : Level) → n < length ls → level_at ls n ≡ Some (get_or ls n d)
-level_there [] n d h = absurd (omega arith)
-level_there (l ∷ ls) zero d h = refl
-level_there (l ∷ ls) (suc n) d h = level_there ls n d (omega arith)
-
-pub level_past : (ls : List Level) (n : ℕ) → length ls ≤ n → level_at ls n ≡ None
-level_past [] n h = refl
-level_past (l ∷ ls) zero h = absurd (omega arith)
-level_past (l ∷ ls) (suc n) h = level_past ls n (omega arith)
-
-pub level_found : (ls : List Level) (n : ℕ) (l : Level) → levels_fit ls ≡ true → level_at ls n ≡ Some l → LevelWithin l
-level_found ls n l fit at = elim (cases_lt n (length ls)) [
-  | inl h ↦ let is : get_or ls n l ≡ l = some_same (sym (level_there ls n l h) ∙ at) in subst (λ x. LevelWithin x) is (level_within ls n l fit h)
-  | inr h ↦ absurd (none-some (sym (level_past ls n h) ∙ at))
-]
-  where
-    some_same : {x y : Level} → Some x ≡ Some y → x ≡ y
-    some_same e = cc
-
-    none-some : {y : Level} → None ≡ Some y → ⊥
-    none-some e = let z : ◌≡◌ {A = ℕ} 0 1 = cc in omega arith
+pub level_found : (ls : List Level) (n : ℕ) (l : Level) → levels_fit ls ≡ true → slice_get ls n ≡ Some l → LevelWithin l
+level_found ls n l fit at = subst (λ x. LevelWithin x) (get_or_from_slice_get ls n l l at) (level_within ls n l fit (slice_get_within ls n l at))

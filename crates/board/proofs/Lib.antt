@@ -1,6 +1,5 @@
 pub mod Passing
 mod Rising
-mod Judging
 mod Standby
 pub mod Bounds
 pub mod Offering

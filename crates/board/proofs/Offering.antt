@@ -1,7 +1,7 @@
 -- Offers of a processor to a task, by what their types hold.
 use Rattle.std.proofs.Common.{◌≡◌, ℕ, ◌%◌, ◌^◌, ◌<◌, ◌≤◌, true, List, ◌∷◌, length, Some, sym, refl, ap, ◌∙◌, subst, inl, inr, arith, pow_mono}
 use mathlib.Core.Logic.{∥∥₁_map}
-use Rattle.std.specs.List.{list_all}
+use Rattle.std.specs.List.{list_all, slice_get}
 use Rattle.std.proofs.lemmas.Bool.{le-leb, eq-eqb, eqb-true, and_parts, and_from, cases_lt}
 use Rattle.board.specs.declared.dues.Due.{Due}
 use Rattle.board.specs.declared.dues.Due.TheVariants.{Period, Deadline}
@@ -10,7 +10,7 @@ use Rattle.board.specs.declared.processors.Processor.{Processor}
 use Rattle.board.specs.declared.tasks.Task.{Task}
 use Rattle.board.specs.Periods.{period_fits, hyperperiod, lcm, longest, OfPeriods}
 use Rattle.board.specs.Tasks.{figures_fit, shares_fit, period_in_range, busy_time}
-use Rattle.board.specs.Measures.{most_time, measure, level_at, offered, counts_in, Own, Offered}
+use Rattle.board.specs.Measures.{most_time, measure, offered, counts_in, Own, Offered}
 use Rattle.board.specs.Views.{processor_figures, task_figures}
 use Rattle.board.proofs.Bounds.{Bounded, measure_bounded}
 use Rattle.board.proofs.Hyperperiods.{lcm_same, period_pos}
@@ -20,7 +20,7 @@ shared_by n m ss fit e = and_from _ _ (eq-eqb (length ss) m e) (and_parts _ _ fi
 
 module _ (p : Processor) (t : Task) (h : ℕ) (l : Level) (one_each : length (task_figures t).shares ≡ length (processor_figures p).standby) where
   pub shares_each : shares_fit (length (processor_figures p).standby) (task_figures t).shares ≡ true
-  shares_each = shared_by t.device_count (length (processor_figures p).standby) (task_figures t).shares t.shared one_each
+  shares_each = shared_by (length (task_figures t).shares) (length (processor_figures p).standby) (task_figures t).shares t.shared one_each
 
   pub task_in_range : figures_fit (processor_figures p) (task_figures t) ≡ true
   task_in_range = and_from _ _ (and_from _ _ (le-leb 1 t.cycles t.some) (le-leb t.cycles 1000000000 t.bounded)) (and_from _ _ (le-leb t.access 1000000 t.modest) shares_each)
@@ -50,7 +50,7 @@ periods_with (Period p) h timed counted short o = record {
 }
 periods_with (Deadline d) h timed counted short o = record { periods = o.periods; few = omega (arith, few_periods (length o.periods) h o.doubled short); in_range = o.in_range; own = tt; is = o.is }
 
-pub offered_here : (p : Processor) (t : Task) (h : ℕ) (l : Level) (number : ℕ) → length (task_figures t).shares ≡ length (processor_figures p).standby → counts_in h t.due ≡ true → h ≤ longest → ∥ OfPeriods h ∥₁ → level_at (processor_figures p).levels number ≡ Some l → offered (task_figures t) l ≡ true → Offered (measure (processor_figures p) (task_figures t) h l)
+pub offered_here : (p : Processor) (t : Task) (h : ℕ) (l : Level) (number : ℕ) → length (task_figures t).shares ≡ length (processor_figures p).standby → counts_in h t.due ≡ true → h ≤ longest → ∥ OfPeriods h ∥₁ → slice_get (processor_figures p).levels number ≡ Some l → offered (task_figures t) l ≡ true → Offered (measure (processor_figures p) (task_figures t) h l)
 offered_here p t h l number one_each counted short made at taken = ∥∥₁_map made λ o.
     let ps = periods_with t.due h t.timed counted short o in
     record {

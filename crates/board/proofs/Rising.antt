@@ -1,30 +1,28 @@
--- A loop that holds each level to the one before.
-use Rattle.std.proofs.Common.{◌≡◌, ℕ, ◌+◌, ◌-◌, ◌<◌, ◌≤◌, true, false, ◌&&◌, List, [], ◌∷◌, length, get_or, drop, sym, refl, ap, ◌∙◌, arith, length-drop}
-use Rattle.std.proofs.lemmas.List.{at_drop_more}
+-- Levels that rise, told by each two neighbours.
+use Rattle.std.proofs.Common.{◌≡◌, ℕ, zero, suc, ◌+◌, ◌<◌, true, false, ◌&&◌, List, [], ◌∷◌, length, get_or, sym, refl, ap, ◌∙◌, arith}
+use Rattle.std.specs.List.{IsAllAdjacentAnswer}
+use Rattle.std.proofs.lemmas.Bool.{and_from}
 use Rattle.board.specs.declared.levels.Level.{Level}
 use Rattle.board.specs.Processors.{below, rising}
 
-module _ (xs : List Level) (i : ℕ) (past : 1 ≤ i) where
-  -- what is left from the level before on
-  turn : (d : Level) → i < length xs → rising (drop (i - 1) xs) ≡ (below (get_or xs (i - 1) d) (get_or xs i d) && rising (drop i xs))
-  turn d h =
-      let a = get_or xs (i - 1) d in
-      let e : i - 1 + 1 ≡ i = omega arith in
-      at_drop_more rising xs (i - 1) d (omega arith)
-      ∙ ap (λ n. rising (a ∷ drop n xs)) e
-      ∙ at_drop_more (λ ys. rising (a ∷ ys)) xs i d h
-      ∙ ap (λ r. below a (get_or xs i d) && r) (sym (at_drop_more rising xs i d h))
+next : (x : Level) (xs : List Level) (k : ℕ) (d : Level) → below (get_or (x ∷ xs) (suc k) d) (get_or (x ∷ xs) (suc k + 1) d) ≡ below (get_or xs k d) (get_or xs (k + 1) d)
+next x xs k d = let e : suc k + 1 ≡ suc (k + 1) = omega arith in ap (λ n. below (get_or xs k d) (get_or (x ∷ xs) n d)) e
 
-  pub rises_more : (d : Level) → i < length xs → below (get_or xs (i - 1) d) (get_or xs i d) ≡ true → rising (drop (i - 1) xs) ≡ rising (drop i xs)
-  rises_more d h e = turn d h ∙ ap (λ b. b && rising (drop i xs)) e
+rises : (xs : List Level) → ((k : ℕ) (d : Level) → k + 1 < length xs → true ≡ below (get_or xs k d) (get_or xs (k + 1) d)) → rising xs ≡ true
+rises [] h = refl
+rises (x ∷ []) h = refl
+rises (x ∷ (y ∷ ys)) h = and_from _ _ (sym (h 0 x (omega arith))) (rises (y ∷ ys) (λ k d l. h (suc k) d (omega arith) ∙ next x (y ∷ ys) k d))
 
-  pub rises_fails : (d : Level) → i < length xs → below (get_or xs (i - 1) d) (get_or xs i d) ≡ false → rising (drop (i - 1) xs) ≡ false
-  rises_fails d h e = turn d h ∙ ap (λ b. b && rising (drop i xs)) e
+falls : (xs : List Level) (k : ℕ) → k + 1 < length xs → ((d : Level) → false ≡ below (get_or xs k d) (get_or xs (k + 1) d)) → rising xs ≡ false
+falls [] k l h = absurd (omega arith)
+falls (x ∷ []) k l h = absurd (omega arith)
+falls (x ∷ (y ∷ ys)) zero l h = ap (λ b. b && rising (y ∷ ys)) (sym (h x))
+falls (x ∷ (y ∷ ys)) (suc k) l h = ap (λ b. below x y && b) (falls (y ∷ ys) k (omega arith) (λ d. h d ∙ next x (y ∷ ys) k d)) ∙ never (below x y)
+  where
+    never : (b : _) → (b && false) ≡ false
+    never true = refl
+    never false = refl
 
-  pub rises_all : length xs ≤ i → rising (drop (i - 1) xs) ≡ true
-  rises_all h = short (drop (i - 1) xs) (simp length-drop (omega arith))
-    where
-      short : (ys : List Level) → length ys ≤ 1 → rising ys ≡ true
-      short [] k = refl
-      short (y ∷ []) k = refl
-      short (y ∷ (z ∷ zs)) k = absurd (omega arith)
+pub rising_by_neighbours : (xs : List Level) (r : _) → IsAllAdjacentAnswer (λ x y b. b ≡ below x y) xs r → r ≡ rising xs
+rising_by_neighbours xs true h = sym (rises xs h)
+rising_by_neighbours xs false h = sym (falls xs h.0 h.1 h.2)

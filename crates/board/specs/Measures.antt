@@ -11,8 +11,8 @@
 --   offer_if p t h n      the offer, if the task belongs
 --   AtOfferedLevel m      some admissible task has the measure m at an offered level of some admissible processor
 --   Offered m             there is such a task: what exactly the measures of offered levels are
-use Rattle.std.specs.Prelude.{◌≡◌, ℕ, zero, suc, ◌+◌, ◌*◌, ◌/◌, ◌%◌, ◌≤◌, Bool, true, cond, ◌&&◌, ◌⊎◌, List, [], ◌∷◌, length, Some, None, Option, ◌==◌, nat_le}
-use Rattle.std.specs.List.{list_all}
+use Rattle.std.specs.Prelude.{◌≡◌, ℕ, ◌+◌, ◌*◌, ◌/◌, ◌%◌, ◌≤◌, Bool, true, cond, ◌&&◌, ◌⊎◌, List, [], ◌∷◌, length, Some, None, Option, ◌==◌, nat_le}
+use Rattle.std.specs.List.{list_all, slice_get}
 use Rattle.board.specs.declared.dues.Due.{Due}
 use Rattle.board.specs.declared.dues.Due.TheVariants.{Period, Deadline}
 use Rattle.board.specs.declared.levels.Level.{Level}
@@ -46,17 +46,12 @@ measure p t h l =
 abbrev pub offered : FiguresOfTask → Level → Bool
 offered t l = nat_le (busy_time t.cycles l.mhz) (most_time t.due)
 
-abbrev pub level_at : List Level → ℕ → Option Level
-level_at [] n = None
-level_at (l ∷ ls) zero = Some l
-level_at (l ∷ ls) (suc n) = level_at ls n
-
 abbrev pub offer_at : ProcessorFigures → FiguresOfTask → ℕ → Option Level → Option Measure
 offer_at p t h None = None
 offer_at p t h (Some l) = cond (offered t l) (Some (measure p t h l)) None
 
 abbrev pub offer : ProcessorFigures → FiguresOfTask → ℕ → ℕ → Option Measure
-offer p t h n = offer_at p t h (level_at p.levels n)
+offer p t h n = offer_at p t h (slice_get p.levels n)
 
 abbrev pub counts_in : ℕ → Due → Bool
 counts_in h (Period p) = h % p == 0
@@ -90,7 +85,7 @@ pub record AtOfferedLevel (m : Measure) : Type 0 where
   pub periods_in_range : list_all period_fits periods ≡ true
   pub own : Own task.due periods
   pub short : hyperperiod periods ≤ longest
-  pub has_level : level_at processor.levels number ≡ Some level
+  pub has_level : slice_get processor.levels number ≡ Some level
   pub in_time : offered task level ≡ true
   pub figures : m ≡ measure processor task (hyperperiod periods) level
 

@@ -35,7 +35,7 @@ pub enum Fault {
 }
 
 impl Fault {
-    // The number of the refusal.
+    // The number of the refusal. The variants carry ports, so they cannot have their numbers themselves.
     pub fn number(&self) -> u8
         ensures { result ≡ (numbered self.now).number }
     {
@@ -55,7 +55,7 @@ impl Fault {
         }
     }
 
-    // The port that the refusal is about, or 0.
+    // The port that the refusal is about, or 0, as answers are written.
     pub fn place(&self) -> u64
         ensures { result ≡ (numbered self.now).place }
     {

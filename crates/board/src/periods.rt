@@ -1,7 +1,7 @@
 // Periods and their least common multiple.
 ghost use Rattle.std.specs.Prelude.{◌≡◌, ◌≤◌, []};
 ghost use Rattle.std.specs.Option.{option_map};
-ghost use Rattle.board.specs.Periods.{lcm, hyperperiod, GreatestDivisor, LeastMultiple, OfPeriods, hyperperiod_with};
+ghost use Rattle.board.specs.Periods.{period_fits, lcm, hyperperiod, GreatestDivisor, LeastMultiple, OfPeriods, hyperperiod_with};
 
 // The least common multiple of the periods of all tasks that stand, in µs.
 #[derive(Clone, Copy)]
@@ -10,6 +10,13 @@ pub struct Hyperperiod {
     ghost positive: { 1 ≤ micros },
     ghost short: { micros ≤ 60000000 },
     ghost made: { ∥ OfPeriods micros ∥₁ },
+}
+
+// A period is 100 to 10,000,000 µs.
+pub(crate) fn period_fits(period: u64) -> bool
+    ensures { result ≡ period_fits period }
+{
+    (100..=10_000_000).contains(&period)
 }
 
 // The greatest number that divides both, by Euclid's division.
@@ -56,7 +63,7 @@ impl Hyperperiod {
     pub fn with(&self, period: u64) -> Option<Hyperperiod>
         ensures { option_map (λ h. h.micros) result ≡ hyperperiod_with self.now.micros period }
     {
-        if period < 100 || period > 10_000_000 {
+        if !period_fits(period) {
             return None;
         }
         let micros = common_multiple(self.micros, period);

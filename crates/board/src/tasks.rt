@@ -1,8 +1,10 @@
 // A task: what a port has to do, fixed once it is made.
-ghost use Rattle.std.specs.Prelude.{◌≡◌, ◌≤◌, true, take};
+ghost use Rattle.std.specs.Prelude.{◌≡◌, ◌≤◌, true, length};
+ghost use Rattle.shortlist.specs.Lists.{listed};
 ghost use Rattle.board.specs.Tasks.{shares_fit, period_in_range};
 
 use crate::dues::Due;
+use shortlist::lists::ShortList;
 
 pub mod makes;
 pub mod reads;
@@ -19,18 +21,16 @@ pub struct TaskFigures<'a> {
     pub due: Due,
 }
 
-// The first places of `shares` hold a share for each device; those behind hold nothing of meaning.
 #[derive(Clone, Copy)]
 pub struct Task {
     cycles: u64,
     access: u64,
-    shares: [u64; 8],
-    device_count: usize,
+    // of each device, in thousandths
+    shares: ShortList<u64, 8>,
     due: Due,
-    ghost few: { device_count ≤ 8 },
     ghost some: { 1 ≤ cycles },
     ghost bounded: { cycles ≤ 1000000000 },
     ghost modest: { access ≤ 1000000 },
-    ghost shared: { shares_fit device_count (take device_count shares) ≡ true },
+    ghost shared: { shares_fit (length (listed shares)) (listed shares) ≡ true },
     ghost timed: { period_in_range due ≡ true },
 }

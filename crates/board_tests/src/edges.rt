@@ -1,4 +1,4 @@
-// A refusal is compared by its number, and 0 stands for none.
+// The refusals of processors and tasks, by their numbers, and the figures of those that are made.
 use board::dues::Due;
 use board::levels::Level;
 use board::periods::Hyperperiod;
@@ -19,18 +19,18 @@ const NINE: [Level; 9] = [
     Level { mhz: 9, mw: 9 },
 ];
 
-fn processor_refused(levels: &[Level], standby: &[u64]) -> u8 {
-    match Processor::new(levels, standby) {
-        Ok(_) => 0,
-        Err(fault) => fault.number(),
-    }
+// The processor is made, or refused with a number.
+fn processor_told(levels: &[Level], standby: &[u64]) -> Result<(), u8> {
+    Processor::new(levels, standby)
+        .map(|_| ())
+        .map_err(|fault| fault.number())
 }
 
-fn task_refused(processor: &Processor, clock: u64, figures: TaskFigures) -> (u8, u64) {
-    match Task::new(processor, 7, clock, figures) {
-        Ok(_) => (0, 0),
-        Err(fault) => (fault.number(), fault.place()),
-    }
+// The task at port 7 is made, or refused with a number and a port.
+fn task_told(processor: &Processor, clock: u64, figures: TaskFigures) -> Result<(), (u8, u64)> {
+    Task::new(processor, 7, clock, figures)
+        .map(|_| ())
+        .map_err(|fault| (fault.number(), fault.place()))
 }
 
 fn figures(cycles: u64, access: u64, shares: &[u64], due: Due) -> TaskFigures<'_> {
@@ -45,75 +45,61 @@ fn figures(cycles: u64, access: u64, shares: &[u64], due: Due) -> TaskFigures<'_
 #[test]
 fn level_figures(rt: HostRuntime) {
     let cases = [
-        (0, 1, 21),
-        (1, 0, 21),
-        (1, 1, 0),
-        (4_000, 60_000, 0),
-        (4_001, 60_000, 21),
-        (4_000, 60_001, 21),
+        (0, 1, Err(21)),
+        (1, 0, Err(21)),
+        (1, 1, Ok(())),
+        (4_000, 60_000, Ok(())),
+        (4_001, 60_000, Err(21)),
+        (4_000, 60_001, Err(21)),
     ];
     for (mhz, mw, expected) in cases {
-        assert_eq!(rt; processor_refused(&[Level { mhz, mw }], &[]), expected);
+        assert_eq!(rt; processor_told(&[Level { mhz, mw }], &[]), expected);
     }
 }
 
 #[test]
 fn levels_rise(rt: HostRuntime) {
     let lower = Level { mhz: 100, mw: 100 };
-    for (mhz, mw, expected) in [(101, 101, 0), (100, 101, 21), (101, 100, 21), (99, 200, 21)] {
-        assert_eq!(rt;
-            processor_refused(&[lower, Level { mhz, mw }], &[]),
-            expected
-        );
+    for (mhz, mw, expected) in [
+        (101, 101, Ok(())),
+        (100, 101, Err(21)),
+        (101, 100, Err(21)),
+        (99, 200, Err(21)),
+    ] {
+        assert_eq!(rt; processor_told(&[lower, Level { mhz, mw }], &[]), expected);
     }
 }
 
 #[test]
 fn counts(rt: HostRuntime) {
-    assert_eq!(rt; processor_refused(&[], &[]), 21);
-    assert_eq!(rt; processor_refused(&NINE, &[]), 21);
-    assert_eq!(rt; processor_refused(&NINE[0..8], &[0; 8]), 0);
-    assert_eq!(rt; processor_refused(&NINE[0..8], &[0; 9]), 21);
-    assert_eq!(rt; processor_refused(&NINE[0..1], &[5_000]), 0);
-    assert_eq!(rt; processor_refused(&NINE[0..1], &[5_001]), 21);
+    assert_eq!(rt; processor_told(&[], &[]), Err(21));
+    assert_eq!(rt; processor_told(&NINE, &[]), Err(21));
+    assert_eq!(rt; processor_told(&NINE[0..8], &[0; 8]), Ok(()));
+    assert_eq!(rt; processor_told(&NINE[0..8], &[0; 9]), Err(21));
+    assert_eq!(rt; processor_told(&NINE[0..1], &[5_000]), Ok(()));
+    assert_eq!(rt; processor_told(&NINE[0..1], &[5_001]), Err(21));
 }
 
 #[test]
 fn task_figures(rt: HostRuntime) -> Result<(), Fail> {
     let processor = Processor::new(&[Level { mhz: 4_000, mw: 1 }], &[0])?;
     let due = Due::Period(10_000_000);
-    assert_eq!(rt;
-        task_refused(&processor, 0, figures(0, 0, &[0], due)),
-        (25, 7)
-    );
-    assert_eq!(rt;
-        task_refused(&processor, 0, figures(1, 1_000_000, &[1_000], due)),
-        (0, 0)
-    );
-    assert_eq!(rt;
-        task_refused(&processor, 0, figures(1_000_000_000, 0, &[0], due)),
-        (0, 0)
-    );
-    assert_eq!(rt;
-        task_refused(&processor, 0, figures(1_000_000_001, 0, &[0], due)),
-        (25, 7)
-    );
-    assert_eq!(rt;
-        task_refused(&processor, 0, figures(1, 1_000_001, &[0], due)),
-        (25, 7)
-    );
-    assert_eq!(rt;
-        task_refused(&processor, 0, figures(1, 0, &[1_001], due)),
-        (25, 7)
-    );
-    assert_eq!(rt;
-        task_refused(&processor, 0, figures(1, 0, &[], due)),
-        (25, 7)
-    );
-    assert_eq!(rt;
-        task_refused(&processor, 0, figures(1, 0, &[0, 0], due)),
-        (25, 7)
-    );
+    let cases: [(u64, u64, &[u64], Result<(), (u8, u64)>); 8] = [
+        (0, 0, &[0], Err((25, 7))),
+        (1, 1_000_000, &[1_000], Ok(())),
+        (1_000_000_000, 0, &[0], Ok(())),
+        (1_000_000_001, 0, &[0], Err((25, 7))),
+        (1, 1_000_001, &[0], Err((25, 7))),
+        (1, 0, &[1_001], Err((25, 7))),
+        (1, 0, &[], Err((25, 7))),
+        (1, 0, &[0, 0], Err((25, 7))),
+    ];
+    for (cycles, access, shares, expected) in cases {
+        assert_eq!(rt;
+            task_told(&processor, 0, figures(cycles, access, shares, due)),
+            expected
+        );
+    }
     Ok(())
 }
 
@@ -121,75 +107,49 @@ fn task_figures(rt: HostRuntime) -> Result<(), Fail> {
 fn due_times(rt: HostRuntime) -> Result<(), Fail> {
     let processor = Processor::new(&[Level { mhz: 10, mw: 1 }], &[])?;
     let now = 1_000;
-    for (period, expected) in [(99, 26), (100, 0), (10_000_000, 0), (10_000_001, 26)] {
+    let cases = [
+        (1, Due::Period(99), Err((26, 7))),
+        (1, Due::Period(100), Ok(())),
+        (1, Due::Period(10_000_000), Ok(())),
+        (1, Due::Period(10_000_001), Err((26, 7))),
+        (1, Due::Deadline(now), Err((26, 7))),
+        (1, Due::Deadline(now + 1), Ok(())),
+        (1, Due::Deadline(now + 60_000_000), Ok(())),
+        (1, Due::Deadline(now + 60_000_001), Err((26, 7))),
+        // 2,000 cycles at 10 MHz are 200 µs, and one cycle more is 201
+        (2_000, Due::Period(200), Ok(())),
+        (2_001, Due::Period(200), Err((27, 7))),
+        (2_000, Due::Deadline(1_200), Ok(())),
+        (2_001, Due::Deadline(1_200), Err((27, 7))),
+    ];
+    for (cycles, due, expected) in cases {
         assert_eq!(rt;
-            task_refused(&processor, now, figures(1, 0, &[], Due::Period(period))).0,
+            task_told(&processor, now, figures(cycles, 0, &[], due)),
             expected
         );
     }
-    for (deadline, expected) in [
-        (now, 26),
-        (now + 1, 0),
-        (now + 60_000_000, 0),
-        (now + 60_000_001, 26),
-    ] {
-        assert_eq!(rt;
-            task_refused(&processor, now, figures(1, 0, &[], Due::Deadline(deadline))).0,
-            expected
-        );
-    }
-    // 2,000 cycles at 10 MHz are 200 µs, and one cycle more is 201
-    assert_eq!(rt;
-        task_refused(&processor, now, figures(2_000, 0, &[], Due::Period(200))),
-        (0, 0)
-    );
-    assert_eq!(rt;
-        task_refused(&processor, now, figures(2_001, 0, &[], Due::Period(200))),
-        (27, 7)
-    );
-    assert_eq!(rt;
-        task_refused(
-            &processor,
-            now,
-            figures(2_000, 0, &[], Due::Deadline(1_200)),
-        ),
-        (0, 0)
-    );
-    assert_eq!(rt;
-        task_refused(
-            &processor,
-            now,
-            figures(2_001, 0, &[], Due::Deadline(1_200)),
-        ),
-        (27, 7)
-    );
     Ok(())
 }
 
-// The hyperperiod of two periods, or 0.
-fn hyperperiod_of(one: u64, other: u64) -> u64 {
-    match Hyperperiod::of_none().with(one) {
-        Some(h) => match h.with(other) {
-            Some(both) => both.micros(),
-            None => 0,
-        },
-        None => 0,
-    }
+// The hyperperiod of two periods, if it has one.
+fn hyperperiod_of(one: u64, other: u64) -> Option<u64> {
+    let both = Hyperperiod::of_none().with(one)?.with(other)?;
+    Some(both.micros())
 }
 
 #[test]
 fn hyperperiods(rt: HostRuntime) {
     assert_eq!(rt; Hyperperiod::of_none().micros(), 1);
-    assert_eq!(rt; hyperperiod_of(1_000, 500), 1_000);
-    assert_eq!(rt; hyperperiod_of(600, 400), 1_200);
-    assert_eq!(rt; hyperperiod_of(10_000_000, 6_000_000), 30_000_000);
+    assert_eq!(rt; hyperperiod_of(1_000, 500), Some(1_000));
+    assert_eq!(rt; hyperperiod_of(600, 400), Some(1_200));
+    assert_eq!(rt; hyperperiod_of(10_000_000, 6_000_000), Some(30_000_000));
     assert_eq!(rt;
         hyperperiod_of(10_000_000, 768),
-        60_000_000,
+        Some(60_000_000),
         "60,000,000 µs is the longest"
     );
-    assert_eq!(rt; hyperperiod_of(10_000_000, 700), 0);
-    assert_eq!(rt; hyperperiod_of(99, 500), 0);
+    assert_eq!(rt; hyperperiod_of(10_000_000, 700), None);
+    assert_eq!(rt; hyperperiod_of(99, 500), None);
 }
 
 #[test]

@@ -1,80 +1,45 @@
 // The fourteen boards with known plans, each planned by the proved planner.
-use crate::rows::{Plain, Setting, rows_of};
-use crate::texts::answer_text;
+use crate::rows::{EXAMPLE, Plain, Setting, rows_of};
 use board::dues::Due;
-use board::faults::Fault;
 use board::processors::Processor;
 use cost::energies::Energy;
-use cost::kinds::{Kind, StrictKind};
+use cost::kinds::Kind;
 use cost::pairs::Pair;
 use cost::peaks::Peak;
 use fronts::plan::plan;
 use fronts::rows::Rows;
+use plan_lines::answers::PlanLine;
 use plans::states::State;
 
-// Plans the rows in a list, and prints cost, load, states and levels, or the refusal and its port.
+// Plans the rows in a list of so many places, and prints cost, load, states and levels, or the refusal and
+// its port.
 fn print_plan<K: Kind>(
     rt: &HostRuntime,
     number: u64,
     rows: &Rows,
-    list: &mut [State<K>],
+    places: usize,
 ) -> anyhow::Result<()> {
+    let mut list = vec![in rt.alloc(); State::<K>::blank(); places]?;
     let mut levels = [0u8; 48];
-    let answer = plan(rows, list, &mut levels);
-    let text = answer_text(rt.alloc(), &answer, &levels)?;
-    println!(rt; "{number}: {text}")?;
+    let answer = plan(rows, &mut list, &mut levels);
+    let line = PlanLine(&answer, &levels);
+    println!(rt; "{number}: {line}")?;
     Ok(())
-}
-
-// An empty place of the list.
-pub fn blank<K: Kind>() -> State<K> {
-    State {
-        load: 0,
-        cost: K::zero(),
-        level: 0,
-        position: 0,
-    }
-}
-
-fn print_energy(rt: &HostRuntime, number: u64, rows: &Rows, room: usize) -> anyhow::Result<()> {
-    let mut list = [blank::<Energy>(); 12];
-    print_plan(rt, number, rows, &mut list[..room.min(12)])
-}
-
-fn print_peak(rt: &HostRuntime, number: u64, rows: &Rows) -> anyhow::Result<()> {
-    let mut list = [blank::<Peak>(); 12];
-    print_plan(rt, number, rows, &mut list)
-}
-
-fn print_both(rt: &HostRuntime, number: u64, rows: &Rows) -> anyhow::Result<()> {
-    let mut list = [blank::<Pair<Energy, Peak>>(); 12];
-    print_plan(rt, number, rows, &mut list)
 }
 
 // Cases 1 to 8: periodic tasks, at a capacity.
 fn print_periodic(rt: &HostRuntime, processor: &Processor) -> anyhow::Result<()> {
-    let first = Plain {
-        cycles: 40_000,
-        due: Due::Period(1_000),
-    };
-    let second = Plain {
-        cycles: 30_000,
-        due: Due::Period(500),
-    };
-    let board = [first, second];
-    let at_1000 = rows_of(processor, &board, Setting::Capacity(1_000))?;
-    let at_900 = rows_of(processor, &board, Setting::Capacity(900))?;
-    let at_500 = rows_of(processor, &board, Setting::Capacity(500))?;
-    let at_499 = rows_of(processor, &board, Setting::Capacity(499))?;
-    let twins = rows_of(processor, &[first, first], Setting::Capacity(700))?;
-    print_energy(rt, 1, &at_1000, 12)?;
-    print_energy(rt, 2, &at_900, 12)?;
-    print_energy(rt, 3, &at_500, 12)?;
-    print_energy(rt, 4, &at_499, 12)?;
-    print_peak(rt, 5, &at_1000)?;
-    print_peak(rt, 6, &at_900)?;
-    print_both(rt, 7, &at_900)?;
-    print_energy(rt, 8, &twins, 12)
+    for (number, thousandths) in [(1, 1_000), (2, 900), (3, 500), (4, 499)] {
+        let rows = rows_of(processor, &EXAMPLE, Setting::Capacity(thousandths))?;
+        print_plan::<Energy>(rt, number, &rows, 12)?;
+    }
+    let at_1000 = rows_of(processor, &EXAMPLE, Setting::Capacity(1_000))?;
+    let at_900 = rows_of(processor, &EXAMPLE, Setting::Capacity(900))?;
+    print_plan::<Peak>(rt, 5, &at_1000, 12)?;
+    print_plan::<Peak>(rt, 6, &at_900, 12)?;
+    print_plan::<Pair<Energy, Peak>>(rt, 7, &at_900, 12)?;
+    let twins = rows_of(processor, &[EXAMPLE[0]; 2], Setting::Capacity(700))?;
+    print_plan::<Energy>(rt, 8, &twins, 12)
 }
 
 // Cases 9 to 12: sporadic tasks, at a clock.
@@ -88,39 +53,18 @@ fn print_sporadic(rt: &HostRuntime, processor: &Processor) -> anyhow::Result<()>
         due: Due::Deadline(550),
     };
     let board = [first, second];
-    print_energy(rt, 9, &rows_of(processor, &board, Setting::Clock(0))?, 12)?;
-    print_energy(rt, 10, &rows_of(processor, &board, Setting::Clock(1))?, 12)?;
-    print_energy(
-        rt,
-        11,
-        &rows_of(processor, &board, Setting::Clock(200))?,
-        12,
-    )?;
-    print_energy(
-        rt,
-        12,
-        &rows_of(processor, &board, Setting::Clock(201))?,
-        12,
-    )
+    for (number, clock) in [(9, 0), (10, 1), (11, 200), (12, 201)] {
+        let rows = rows_of(processor, &board, Setting::Clock(clock))?;
+        print_plan::<Energy>(rt, number, &rows, 12)?;
+    }
+    Ok(())
 }
 
 // Cases 13 and 14: no tasks, and a list of 5 places for the board of case 1.
 fn print_edges(rt: &HostRuntime, processor: &Processor) -> anyhow::Result<()> {
-    let first = Plain {
-        cycles: 40_000,
-        due: Due::Period(1_000),
-    };
-    let second = Plain {
-        cycles: 30_000,
-        due: Due::Period(500),
-    };
-    print_energy(rt, 13, &Rows::none(), 12)?;
-    print_energy(
-        rt,
-        14,
-        &rows_of(processor, &[first, second], Setting::Capacity(1_000))?,
-        5,
-    )
+    let at_1000 = rows_of(processor, &EXAMPLE, Setting::Capacity(1_000))?;
+    print_plan::<Energy>(rt, 13, &Rows::none(), 12)?;
+    print_plan::<Energy>(rt, 14, &at_1000, 5)
 }
 
 // A line for each of the fourteen boards.

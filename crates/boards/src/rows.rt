@@ -7,6 +7,7 @@ use board::processors::Processor;
 use board::tasks::{Task, TaskFigures};
 use fronts::row::Row;
 use fronts::rows::Rows;
+use std::array;
 
 // Cycles, and a period or a deadline, of a task without access energy.
 #[derive(Clone, Copy)]
@@ -14,6 +15,18 @@ pub struct Plain {
     pub cycles: u64,
     pub due: Due,
 }
+
+// The example board.
+pub const EXAMPLE: [Plain; 2] = [
+    Plain {
+        cycles: 40_000,
+        due: Due::Period(1_000),
+    },
+    Plain {
+        cycles: 30_000,
+        due: Due::Period(500),
+    },
+];
 
 // The task, for a processor without devices, at clock 0.
 pub fn plain_task(processor: &Processor, port: u64, plain: Plain) -> Result<Task, Fault> {
@@ -27,22 +40,17 @@ pub fn plain_task(processor: &Processor, port: u64, plain: Plain) -> Result<Task
 }
 
 // The hyperperiod with the time of one port more; a deadline leaves it as it is.
-pub fn with_due(hyperperiod: &Hyperperiod, port: u64, due: Due) -> Result<Hyperperiod, Fault> {
+fn with_due(hyperperiod: &Hyperperiod, port: u64, due: Due) -> Result<Hyperperiod, Fault> {
     match due {
         Due::Deadline(_) => Ok(*hyperperiod),
-        Due::Period(period) => match hyperperiod.with(period) {
-            Some(longer) => Ok(longer),
-            None => Err(Fault::LongHyperperiod(port)),
-        },
+        Due::Period(period) => hyperperiod.with(period).ok_or(Fault::LongHyperperiod(port)),
     }
 }
 
 // The hyperperiod of all tasks.
-fn joint(tasks: &[Plain]) -> Result<Hyperperiod, Fault> {
+pub fn joint(tasks: &[Plain]) -> Result<Hyperperiod, Fault> {
     let mut hyperperiod = Hyperperiod::of_none();
-    let mut port = 0u64;
-    for task in tasks {
-        port = port.saturating_add(1);
+    for (port, task) in (1u64..).zip(tasks.iter()) {
         hyperperiod = with_due(&hyperperiod, port, task.due)?;
     }
     Ok(hyperperiod)
@@ -66,20 +74,14 @@ fn limit(setting: Setting, hyperperiod: &Hyperperiod, due: Due) -> u64 {
 
 // What each level offers the task.
 fn offers(processor: &Processor, hyperperiod: &Hyperperiod, task: &Task) -> [Option<Offer>; 8] {
-    let mut offers: [Option<Offer>; 8] = [None; 8];
-    for level in 0..8 {
-        offers[level] = processor.offer(task, hyperperiod, level);
-    }
-    offers
+    array::from_fn(|level| processor.offer(task, hyperperiod, level))
 }
 
 // The rows of the tasks, which stand in the order of their deadlines if they have any.
 pub fn rows_of(processor: &Processor, tasks: &[Plain], setting: Setting) -> Result<Rows, Fault> {
     let hyperperiod = joint(tasks)?;
     let mut rows = Rows::none();
-    let mut port = 0u64;
-    for plain in tasks {
-        port = port.saturating_add(1);
+    for (port, plain) in (1u64..).zip(tasks.iter()) {
         let task = plain_task(processor, port, *plain)?;
         let row = Row {
             port,

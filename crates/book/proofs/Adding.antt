@@ -8,7 +8,7 @@ use Rattle.board.specs.declared.measures.Measure.{Measure}
 use Rattle.board.specs.declared.offers.Offer.{Offer}
 use Rattle.board.specs.Processors.{ProcessorFigures, between, levels_fit, standby_fits, processor_fits}
 use Rattle.board.specs.Measures.{offer, offer_at}
-use Rattle.board.proofs.Leveling.{level_past}
+use Rattle.std.proofs.lemmas.Option.{slice_get_past}
 use Rattle.plans.specs.Boards.{Standing}
 use Rattle.plans.specs.Choices.{In}
 use Rattle.plans.specs.Promises.{Measured}
@@ -62,7 +62,7 @@ some_measure f os e =
 offered_early : (p : ProcessorFigures) (h : ℕ) (s : Standing) (level : ℕ) (m : Measure) → length p.levels ≤ 8 → offer p s.task h level ≡ Some m → level < 8
 offered_early p h s level m few e = elim (cases_lt level 8) [
   | inl lt ↦ lt
-  | inr le ↦ absurd (none-some (ap (offer_at p s.task h) (level_past p.levels level (omega arith))) e)
+  | inr le ↦ absurd (none-some (ap (offer_at p s.task h) (slice_get_past p.levels level (omega arith))) e)
 ]
 
 pub few_levels : (p : ProcessorFigures) → processor_fits p ≡ true → length p.levels ≤ 8

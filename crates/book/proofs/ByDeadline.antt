@@ -2,7 +2,7 @@
 use Rattle.std.proofs.Common.{◌≡◌, ℕ, ◌+◌, ◌-◌, ◌<◌, ◌≤◌, Bool, true, cond, ◌&&◌, ltb, List, [], ◌∷◌, ◌++◌, map, length, get_or, take, Some, None, Option, sym, ap, ◌∙◌, arith}
 use Rattle.std.specs.List.{range_with_len}
 use Rattle.std.specs.Option.{option_map}
-use Rattle.std.proofs.lemmas.List.{length-map, length-take-le, get_or-take, get_or-map, take_more, take_all}
+use Rattle.std.proofs.lemmas.List.{length-map, length-take-le, get_or-map, take_more, take_all}
 use Rattle.std.proofs.lemmas.Bool.{and_from, le-leb, cond-true}
 use Rattle.board.specs.declared.dues.Due.TheVariants.{Deadline}
 use Rattle.board.specs.declared.measures.Measure.{Measure}
@@ -51,14 +51,14 @@ module _ (processor : Processor) (tasks : List (Option Task)) (clock : ℕ) wher
   abbrev rows_of_first : ℕ → List PlainRow
   rows_of_first n = map (λ s. standing_row p 1 (limit_of s) s) (take n sorted)
 
-  module _ (turns : List Turn) (count : ℕ) (places : length turns ≡ 48) (few : count ≤ 48) (are : take count turns ≡ map turn_of sorted) where
-    all_turns : count ≡ length sorted
-    all_turns = sym (length-take-le count turns (omega arith)) ∙ ap length are ∙ length-map sorted turn_of
+  module _ (turns : List Turn) (few : length turns ≤ 48) (are : turns ≡ map turn_of sorted) where
+    all_turns : length turns ≡ length sorted
+    all_turns = ap length are ∙ length-map sorted turn_of
 
-    pub rows_of_all : (i : ℕ) → count ≤ i → rows_of_first i ≡ map (λ s. standing_row p 1 (limit_of s) s) sorted
+    pub rows_of_all : (i : ℕ) → length turns ≤ i → rows_of_first i ≡ map (λ s. standing_row p 1 (limit_of s) s) sorted
     rows_of_all i h = ap (map (λ s. standing_row p 1 (limit_of s) s)) (take_all i sorted (omega (arith, all_turns)))
 
-    module _ (ports : length tasks ≡ 48) (fit : sporadic_tasks p ts ≡ true) (i : ℕ) (lt : i < count) (e : Turn) where
+    module _ (ports : length tasks ≡ 48) (fit : sporadic_tasks p ts ≡ true) (i : ℕ) (lt : i < length turns) (e : Turn) where
       abbrev s : Standing
       s = get_or sorted i nobody
 
@@ -66,7 +66,7 @@ module _ (processor : Processor) (tasks : List (Option Task)) (clock : ℕ) wher
       within = omega (arith, all_turns)
 
       turn_is : get_or turns i e ≡ turn_of s
-      turn_is = sym (get_or-take count turns i e lt) ∙ ap (λ us. get_or us i e) are ∙ get_or-map turn_of sorted i nobody e within
+      turn_is = ap (λ us. get_or us i e) are ∙ get_or-map turn_of sorted i nobody e within
 
       stands : In s (standing 1 ts)
       stands = by_deadline_out (standing 1 ts) s (in_getD sorted i nobody within)

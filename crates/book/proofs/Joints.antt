@@ -1,7 +1,7 @@
 -- The hyperperiod of the tasks from some port on.
-use Rattle.std.proofs.Common.{◌≡◌, ℕ, zero, suc, ◌+◌, ◌-◌, ◌<◌, ◌≤◌, Bool, true, false, cond, ◌&&◌, leb, List, [], ◌∷◌, length, get_or, drop, Some, None, Option, sym, refl, ap, ◌∙◌, arith}
+use Rattle.std.proofs.Common.{◌≡◌, ℕ, zero, suc, ◌+◌, ◌<◌, ◌≤◌, Bool, true, false, cond, ◌&&◌, leb, List, [], ◌∷◌, length, get_or, drop, Some, None, Option, sym, refl, ap, ◌∙◌, arith}
 use Rattle.std.specs.Option.{option_map}
-use Rattle.std.proofs.lemmas.List.{at_drop_more, at_drop_all, get_or-map, length-map}
+use Rattle.std.proofs.lemmas.List.{at_drop_more, get_or-map, length-map}
 use Rattle.std.proofs.lemmas.Bool.{lt-leb, le-leb, cond-true, cond-false, leb-false}
 use Rattle.board.specs.declared.tasks.Task.{Task}
 use Rattle.board.specs.Periods.{lcm, hyperperiod, hyperperiod_with, period_fits, longest}
@@ -38,19 +38,18 @@ with_some h p n = by (period_fits p && leb (lcm h p) longest)
     by true e = cc
     by false e = absurd (let z : ◌≡◌ {A = ℕ} 0 1 = cc in omega arith)
 
-module _ (xs : List (Option Task)) (i : ℕ) (o : Option Task) (some : 0 < i) (within : i ≤ length xs) (is : o ≡ get_or xs (i - 1) o) where
-  read : get_or (figures_of xs) (i - 1) None ≡ option_map task_figures o
-  read = get_or-map (option_map task_figures) xs (i - 1) o None (omega arith) ∙ ap (option_map task_figures) (sym is)
+module _ (xs : List (Option Task)) (i : ℕ) (o : Option Task) (within : i < length xs) (is : o ≡ get_or xs i o) where
+  read : get_or (figures_of xs) i None ≡ option_map task_figures o
+  read = get_or-map (option_map task_figures) xs i o None within ∙ ap (option_map task_figures) (sym is)
 
-  pub one_more : {Y : Type 0} (F : List (Option FiguresOfTask) → Y) → F (drop (i - 1) (figures_of xs)) ≡ F (option_map task_figures o ∷ drop i (figures_of xs))
+  pub one_more : {Y : Type 0} (F : List (Option FiguresOfTask) → Y) → F (drop i (figures_of xs)) ≡ F (option_map task_figures o ∷ drop (i + 1) (figures_of xs))
   one_more F =
-      let e : i - 1 + 1 ≡ i = omega arith in
-      at_drop_more F (figures_of xs) (i - 1) None (omega (arith, length-map xs (option_map task_figures)))
-      ∙ ap (λ x. F (x ∷ drop (i - 1 + 1) (figures_of xs))) read ∙ ap (λ n. F (option_map task_figures o ∷ drop n (figures_of xs))) e
+      at_drop_more F (figures_of xs) i None (omega (arith, within, length-map xs (option_map task_figures)))
+      ∙ ap (λ x. F (x ∷ drop (i + 1) (figures_of xs))) read
 
-  pub joint_more : (h n : ℕ) → h ≡ hyperperiod (dues (drop i (figures_of xs))) → Some n ≡ joined_with h (option_map task_figures o) → n ≡ hyperperiod (dues (drop (i - 1) (figures_of xs)))
+  pub joint_more : (h n : ℕ) → h ≡ hyperperiod (dues (drop (i + 1) (figures_of xs))) → Some n ≡ joined_with h (option_map task_figures o) → n ≡ hyperperiod (dues (drop i (figures_of xs)))
   joint_more h n e r =
-      let ts = drop i (figures_of xs) in
+      let ts = drop (i + 1) (figures_of xs) in
       by (option_map task_figures o) ts (r ∙ ap (λ x. joined_with x (option_map task_figures o)) e) ∙ sym (one_more (λ us. hyperperiod (dues us)))
     where
       by : (y : Option FiguresOfTask) (ts : List (Option FiguresOfTask)) → Some n ≡ joined_with (hyperperiod (dues ts)) y → n ≡ hyperperiod (dues (y ∷ ts))
@@ -58,16 +57,16 @@ module _ (xs : List (Option Task)) (i : ℕ) (o : Option Task) (some : 0 < i) (w
       by (Some t) ts q = with_some (hyperperiod (dues ts)) (due_time t.due) n q
 
   -- where one task makes it too long, so it is with all of them
-  pub joint_too_long : (h : ℕ) → h ≡ hyperperiod (dues (drop i (figures_of xs))) → each_period (figures_of xs) ≡ true → None ≡ joined_with h (option_map task_figures o) → longest < hyperperiod (dues (figures_of xs))
+  pub joint_too_long : (h : ℕ) → h ≡ hyperperiod (dues (drop (i + 1) (figures_of xs))) → each_period (figures_of xs) ≡ true → None ≡ joined_with h (option_map task_figures o) → longest < hyperperiod (dues (figures_of xs))
   joint_too_long h e fit r =
-      let ts = drop i (figures_of xs) in
+      let ts = drop (i + 1) (figures_of xs) in
       let here = by (option_map task_figures o) ts period_here (r ∙ ap (λ x. joined_with x (option_map task_figures o)) e) in
-      omega (arith, here, one_more (λ us. hyperperiod (dues us)), joint_rises (figures_of xs) (i - 1))
+      omega (arith, here, one_more (λ us. hyperperiod (dues us)), joint_rises (figures_of xs) i)
     where
       period_here : on_task (λ x. has_period x.due) (option_map task_figures o) ≡ true
       period_here =
           ap (on_task (λ x. has_period x.due)) (sym read)
-          ∙ pass_at (on_task (λ x. has_period x.due)) (figures_of xs) (i - 1) None fit (omega (arith, length-map xs (option_map task_figures)))
+          ∙ pass_at (on_task (λ x. has_period x.due)) (figures_of xs) i None fit (omega (arith, within, length-map xs (option_map task_figures)))
 
       declined : (a b : Bool) (n : ℕ) → a ≡ true → None ≡ cond (a && b) (Some n) None → b ≡ false
       declined true true n f q = absurd (let z : ◌≡◌ {A = ℕ} 0 1 = cc in omega arith)
@@ -82,6 +81,3 @@ module _ (xs : List (Option Task)) (i : ℕ) (o : Option Task) (some : 0 < i) (w
 
 pub joint_all : (ts : List (Option FiguresOfTask)) → hyperperiod (dues ts) ≡ joint_period (standing 1 ts)
 joint_all ts = ap hyperperiod (sym (dues_standing ts 1))
-
-pub joint_start : (ts : List (Option FiguresOfTask)) (i : ℕ) → length ts ≤ i → 1 ≡ hyperperiod (dues (drop i ts))
-joint_start ts i h = sym (at_drop_all (λ us. hyperperiod (dues us)) ts i h)

@@ -4,7 +4,7 @@ use Rattle.std.specs.List.{range_with_len, flat_map}
 use Rattle.board.specs.Processors.{ProcessorFigures}
 use Rattle.board.specs.Tasks.{FiguresOfTask}
 use Rattle.board.specs.Measures.{offer, offer_at}
-use Rattle.board.proofs.Leveling.{level_past}
+use Rattle.std.proofs.lemmas.Option.{slice_get_past}
 use Rattle.cost.specs.Kinds.{Meaning}
 use Rattle.plans.specs.Choices
 use Rattle.plans.specs.Boards.{Standing, priced, offers, row}
@@ -39,7 +39,7 @@ module _ {C : Type 0} (k : Meaning C) where
   module _ (p : ProcessorFigures) (few : length p.levels ≤ 8) (h : ℕ) where
     -- no level is offered past the last
     all_levels : (t : FiguresOfTask) → flat_map (λ level. priced k level (offer p t h level)) (range_with_len 0 8) ≡ offers k p t h
-    all_levels t = joined_short (λ level. priced k level (offer p t h level)) (length p.levels) 8 0 few (λ i g. ap (λ o. priced k i (offer_at p t h o)) (level_past p.levels i (omega arith)))
+    all_levels t = joined_short (λ level. priced k level (offer p t h level)) (length p.levels) 8 0 few (λ i g. ap (λ o. priced k i (offer_at p t h o)) (slice_get_past p.levels i (omega arith)))
 
     standing_priced : (limit : ℕ) (s : Standing) → priced_row (standing_row p h limit s) ≡ row k p h limit s
     standing_priced limit s = ap (λ (os : List (Choices.Offer C)). record { port = s.port; limit = limit; offers = os }) (all_levels s.task)

@@ -1,7 +1,6 @@
 // Books of tasks at ports 1 to 48: what is admitted, what stands, and its plans.
 #![tactic(auto)]
 
-pub mod calls;
 pub mod capacities;
 pub mod periodic;
 mod periods;

@@ -10,7 +10,6 @@ use board::processors::Processor;
 use board::tasks::Task;
 
 pub mod calls;
-pub mod lives;
 pub mod planning;
 
 // Periodic tasks at the ports of a processor. Each is fit to be planned, and so are all together.

@@ -35,9 +35,8 @@ pub(crate) fn hyperperiod_of(tasks: &[Option<Task>]) -> Option<Hyperperiod>
     ensures { option_map (λ h. h.micros) result ≡ if_short (joint_period (standing 1 (figures_of tasks.now))) }
 {
     let mut joint = Hyperperiod::of_none();
-    for i in (0..tasks.len()).rev() {
-        let standing = tasks[i];
-        joint = joined(&joint, standing)?;
+    for standing in tasks.iter().rev() {
+        joint = joined(&joint, *standing)?;
     }
     Some(joint)
 }

@@ -10,7 +10,7 @@ use board::tasks::Task;
 fn is_port(port: u64) -> bool
     ensures { result ≡ a_port port }
 {
-    1 <= port && port <= 48
+    (1..=48).contains(&port)
 }
 
 // The task of the port, if it has one.

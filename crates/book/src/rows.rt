@@ -18,6 +18,7 @@ use board::processors::Processor;
 use board::tasks::Task;
 use fronts::row::Row;
 use fronts::rows::Rows;
+use std::array;
 
 // What each level offers the task.
 pub(crate) fn offers(
@@ -27,11 +28,7 @@ pub(crate) fn offers(
 ) -> [Option<Offer>; 8]
     ensures { measures_of result ≡ map (offer_if (processor_figures processor.now) (task_figures task.now) hyperperiod.now.micros) (range_with_len 0 8) }
 {
-    let mut all = [None; 8];
-    for number in 0..8 {
-        all[number] = processor.offer(task, hyperperiod, number);
-    }
-    all
+    array::from_fn(|number| processor.offer(task, hyperperiod, number))
 }
 
 // The limit of each periodic row: the hyperperiod times the capacity, rounded down to whole µs.
@@ -49,16 +46,14 @@ fn rows_by_port(
     hyperperiod: &Hyperperiod,
     limit: u64,
 ) -> Rows
-    requires ports { length tasks.now ≡ 48 }
     requires fit { periodic_tasks (processor_figures processor.now) (figures_of tasks.now) ≡ true }
     requires joint { hyperperiod.now.micros ≡ joint_period (standing 1 (figures_of tasks.now)) }
     ensures { map plain_row (listed_rows result) ≡ map (standing_row (processor_figures processor.now) (joint_period (standing 1 (figures_of tasks.now))) limit) (standing 1 (figures_of tasks.now)) }
 {
     let mut rows = Rows::none();
-    for place in 0..48 {
-        let entry = tasks[place];
+    for (place, entry) in tasks.iter().enumerate() {
         if let Some(task) = entry {
-            let offers = offers(processor, &task, hyperperiod);
+            let offers = offers(processor, task, hyperperiod);
             let port = place as u64 + 1;
             let _ = rows.push(&Row {
                 port,
@@ -76,7 +71,6 @@ pub(crate) fn periodic_rows(
     tasks: &[Option<Task>; 48],
     thousandths: u64,
 ) -> Rows
-    requires ports { length tasks.now ≡ 48 }
     requires fit { periodic_tasks (processor_figures processor.now) (figures_of tasks.now) ≡ true }
     requires within { thousandths ≤ 1000 }
     ensures { map plain_row (listed_rows result) ≡ periodic_plain_rows (processor_figures processor.now) thousandths (standing 1 (figures_of tasks.now)) }
@@ -99,15 +93,12 @@ fn sporadic_limit(deadline: u64, clock: u64) -> u64
 
 // The rows of a sporadic book at this time of its clock, by deadline and then port.
 pub(crate) fn sporadic_rows(processor: &Processor, tasks: &[Option<Task>; 48], clock: u64) -> Rows
-    requires ports { length tasks.now ≡ 48 }
     requires fit { sporadic_tasks (processor_figures processor.now) (figures_of tasks.now) ≡ true }
     ensures { map plain_row (listed_rows result) ≡ sporadic_plain_rows (processor_figures processor.now) clock (standing 1 (figures_of tasks.now)) }
 {
-    let order = turns_of(tasks);
     let once = Hyperperiod::of_none();
     let mut rows = Rows::none();
-    for i in 0..order.count {
-        let turn = order.turns[i];
+    for turn in turns_of(tasks).items() {
         if let Some(task) = task_at(tasks, turn.port) {
             let offers = offers(processor, &task, &once);
             let limit = sporadic_limit(turn.deadline, clock);

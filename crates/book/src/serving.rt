@@ -11,7 +11,7 @@ use board::tasks::Task;
 fn cycles_remain(remaining: u64, cycles: u64) -> bool
     ensures { result ≡ between 1 remaining cycles }
 {
-    1 <= cycles && cycles <= remaining
+    (1..=remaining).contains(&cycles)
 }
 
 // What is left of the port's task when so many cycles are taken off.

@@ -8,7 +8,6 @@ use board::processors::Processor;
 use board::tasks::Task;
 
 pub mod calls;
-pub mod lives;
 pub mod planning;
 
 // Sporadic tasks at the ports of a processor, and a clock. Each task is fit to be planned.

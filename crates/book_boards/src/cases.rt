@@ -1,24 +1,18 @@
 // The fourteen boards with known plans, each kept in a book.
-use crate::texts::answer_text;
 use board::faults::Fault;
 use board::processors::Processor;
 use book::periodic::PeriodicBook;
 use book::sporadic::SporadicBook;
 use cost::energies::Energy;
-use cost::kinds::{Kind, StrictKind};
+use cost::kinds::Kind;
 use cost::pairs::Pair;
 use cost::peaks::Peak;
+use plan_lines::answers::PlanLine;
+use plans::figures::Figures;
 use plans::states::State;
 
-// An empty place of a list.
-pub fn blank<K: Kind>() -> State<K> {
-    State {
-        load: 0,
-        cost: K::zero(),
-        level: 0,
-        position: 0,
-    }
-}
+// more places than any of these boards has states
+pub const PLACES: usize = 12;
 
 // A book with a task of 40,000 cycles every 1,000 µs at port 1, and one with these figures at port 2.
 pub fn periodic_board(
@@ -46,80 +40,90 @@ pub fn sporadic_board(
     Ok(book)
 }
 
-// Plans the book in the list, and prints cost, load, states and levels, or the refusal and its port.
-fn print_periodic<K: Kind>(
+// A book that can be planned.
+pub trait Planner {
+    // The plan of what stands, in the list and the levels buffer.
+    fn planned<K: Kind>(
+        &self,
+        list: &mut [State<K>],
+        levels: &mut [u8],
+    ) -> Result<Figures<K>, Fault>;
+}
+
+impl Planner for PeriodicBook {
+    fn planned<K: Kind>(
+        &self,
+        list: &mut [State<K>],
+        levels: &mut [u8],
+    ) -> Result<Figures<K>, Fault> {
+        self.plan(list, levels)
+    }
+}
+
+impl Planner for SporadicBook {
+    fn planned<K: Kind>(
+        &self,
+        list: &mut [State<K>],
+        levels: &mut [u8],
+    ) -> Result<Figures<K>, Fault> {
+        self.plan(list, levels)
+    }
+}
+
+// Plans the book in a list of so many places, and prints cost, load, states and levels, or the refusal and its
+// port, behind the name of the case.
+pub fn print_plan<K: Kind, B: Planner>(
     rt: &HostRuntime,
-    number: u64,
-    book: &PeriodicBook,
-    list: &mut [State<K>],
+    case: &str,
+    book: &B,
+    places: usize,
 ) -> anyhow::Result<()> {
+    let mut list = vec![in rt.alloc(); State::<K>::blank(); places]?;
     let mut levels = [0u8; 48];
-    let answer = book.plan(list, &mut levels);
-    let text = answer_text(rt.alloc(), &answer, &levels)?;
-    println!(rt; "{number}: {text}")?;
+    let answer = book.planned(&mut list, &mut levels);
+    let line = PlanLine(&answer, &levels);
+    println!(rt; "{case}: {line}")?;
     Ok(())
 }
 
-fn print_energy(rt: &HostRuntime, number: u64, book: &PeriodicBook) -> anyhow::Result<()> {
-    print_periodic(rt, number, book, &mut [blank::<Energy>(); 12])
-}
-
-fn print_peak(rt: &HostRuntime, number: u64, book: &PeriodicBook) -> anyhow::Result<()> {
-    print_periodic(rt, number, book, &mut [blank::<Peak>(); 12])
-}
-
-fn print_both(rt: &HostRuntime, number: u64, book: &PeriodicBook) -> anyhow::Result<()> {
-    print_periodic(rt, number, book, &mut [blank::<Pair<Energy, Peak>>(); 12])
-}
-
-// The same of a sporadic book, by the energy.
-fn print_sporadic(rt: &HostRuntime, case: &str, book: &SporadicBook) -> anyhow::Result<()> {
-    let mut list = [blank::<Energy>(); 12];
-    let mut levels = [0u8; 48];
-    let answer = book.plan(&mut list, &mut levels);
-    let text = answer_text(rt.alloc(), &answer, &levels)?;
-    println!(rt; "{case}: {text}")?;
-    Ok(())
+// The plan by the energy, in a list that is long enough.
+fn print_energy<B: Planner>(rt: &HostRuntime, case: &str, book: &B) -> anyhow::Result<()> {
+    print_plan::<Energy, B>(rt, case, book, PLACES)
 }
 
 // Cases 1 to 8: periodic tasks, at a capacity.
 fn print_capacities(rt: &HostRuntime, processor: &Processor) -> anyhow::Result<()> {
     let mut board = periodic_board(processor, 30_000, 500, 1_000)?;
-    print_energy(rt, 1, &board)?;
-    board.capacity(900)?;
-    print_energy(rt, 2, &board)?;
-    board.capacity(500)?;
-    print_energy(rt, 3, &board)?;
-    board.capacity(499)?;
-    print_energy(rt, 4, &board)?;
+    for (case, thousandths) in [("1", 1_000), ("2", 900), ("3", 500), ("4", 499)] {
+        board.capacity(thousandths)?;
+        print_energy(rt, case, &board)?;
+    }
     board.capacity(1_000)?;
-    print_peak(rt, 5, &board)?;
+    print_plan::<Peak, PeriodicBook>(rt, "5", &board, PLACES)?;
     board.capacity(900)?;
-    print_peak(rt, 6, &board)?;
-    print_both(rt, 7, &board)?;
-    print_energy(rt, 8, &periodic_board(processor, 40_000, 1_000, 700)?)
+    print_plan::<Peak, PeriodicBook>(rt, "6", &board, PLACES)?;
+    print_plan::<Pair<Energy, Peak>, PeriodicBook>(rt, "7", &board, PLACES)?;
+    print_energy(rt, "8", &periodic_board(processor, 40_000, 1_000, 700)?)
 }
 
 // Cases 9 to 12: sporadic tasks, at a clock.
 fn print_clocks(rt: &HostRuntime, processor: &Processor) -> anyhow::Result<()> {
     let mut board = sporadic_board(processor, 400, 550)?;
-    print_sporadic(rt, "9", &board)?;
-    board.clock(1)?;
-    print_sporadic(rt, "10", &board)?;
-    board.clock(200)?;
-    print_sporadic(rt, "11", &board)?;
-    board.clock(201)?;
-    print_sporadic(rt, "12", &board)
+    for (case, time) in [("9", 0), ("10", 1), ("11", 200), ("12", 201)] {
+        board.clock(time)?;
+        print_energy(rt, case, &board)?;
+    }
+    Ok(())
 }
 
 // Cases 13 and 14: no tasks, and a list of 5 places for the board of case 1. Behind them the board whose
 // first deadline binds: levels 0 and 0 would keep the last limit, and port 1 would be late.
 fn print_edges(rt: &HostRuntime, processor: &Processor) -> anyhow::Result<()> {
-    print_energy(rt, 13, &PeriodicBook::of(processor))?;
+    print_energy(rt, "13", &PeriodicBook::of(processor))?;
     let board = periodic_board(processor, 30_000, 500, 1_000)?;
-    print_periodic(rt, 14, &board, &mut [blank::<Energy>(); 5])?;
+    print_plan::<Energy, PeriodicBook>(rt, "14", &board, 5)?;
     let late = sporadic_board(processor, 399, 700)?;
-    print_sporadic(rt, "deadlines 399 and 700", &late)
+    print_energy(rt, "deadlines 399 and 700", &late)
 }
 
 // A line for each of the boards.

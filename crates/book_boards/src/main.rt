@@ -4,7 +4,6 @@
 
 mod cases;
 mod measures;
-mod texts;
 mod trials;
 mod two_lives;
 

@@ -1,27 +1,23 @@
 // Trials at other capacities, which leave the book's own alone.
-use crate::cases::{blank, periodic_board};
-use crate::texts::answer_text;
+use crate::cases::{PLACES, periodic_board, print_plan};
 use board::processors::Processor;
 use book::periodic::PeriodicBook;
 use cost::energies::Energy;
+use plan_lines::answers::PlanLine;
+use plans::states::State;
 
 // The plan at the book's own capacity.
 fn print_own(rt: &HostRuntime, book: &PeriodicBook) -> anyhow::Result<()> {
-    let mut list = [blank::<Energy>(); 12];
-    let mut levels = [0u8; 48];
-    let answer = book.plan(&mut list, &mut levels);
-    let text = answer_text(rt.alloc(), &answer, &levels)?;
-    println!(rt; "plan: {text}")?;
-    Ok(())
+    print_plan::<Energy, PeriodicBook>(rt, "plan", book, PLACES)
 }
 
 // A trial at this capacity, in thousandths.
 fn print_trial(rt: &HostRuntime, book: &mut PeriodicBook, thousandths: u64) -> anyhow::Result<()> {
-    let mut list = [blank::<Energy>(); 12];
+    let mut list = [State::<Energy>::blank(); PLACES];
     let mut levels = [0u8; 48];
     let answer = book.trial(thousandths, &mut list, &mut levels);
-    let text = answer_text(rt.alloc(), &answer, &levels)?;
-    println!(rt; "trial at {thousandths}: {text}")?;
+    let line = PlanLine(&answer, &levels);
+    println!(rt; "trial at {thousandths}: {line}")?;
     Ok(())
 }
 
@@ -29,8 +25,8 @@ fn print_trial(rt: &HostRuntime, book: &mut PeriodicBook, thousandths: u64) -> a
 pub fn print_trials(rt: &HostRuntime, processor: &Processor) -> anyhow::Result<()> {
     let mut board = periodic_board(processor, 30_000, 500, 1_000)?;
     print_own(rt, &board)?;
-    print_trial(rt, &mut board, 900)?;
-    print_trial(rt, &mut board, 499)?;
-    print_trial(rt, &mut board, 1_001)?;
+    for thousandths in [900, 499, 1_001] {
+        print_trial(rt, &mut board, thousandths)?;
+    }
     print_own(rt, &board)
 }

@@ -1,11 +1,13 @@
 // Two lives of each book, which end in the same board but for the numbers of the ports.
-use crate::cases::blank;
-use crate::texts::answer_text;
 use board::processors::Processor;
+use book::periodic::PeriodicBook;
+use book::sporadic::SporadicBook;
 use cost::energies::Energy;
+use lives::books::Book;
 use lives::calls::{PeriodicCall, Question, SporadicCall};
-use lives::periodic::lives as periodic_lives;
-use lives::sporadic::lives as sporadic_lives;
+use lives::living::{TwoLives, lives};
+use plan_lines::answers::PlanLine;
+use plans::states::State;
 
 // Admits a periodic task without access energy and devices.
 fn periodic(port: u64, cycles: u64, period: u64) -> PeriodicCall<'static> {
@@ -43,6 +45,35 @@ fn sporadic(port: u64, cycles: u64, deadline: u64) -> SporadicCall<'static> {
     }
 }
 
+// Lives two lives of a book, by the energy, and prints what they answer in one line.
+fn print_two<C, Q: Copy, B: Book<C, Q>>(
+    rt: &HostRuntime,
+    name: &str,
+    processor: &Processor,
+    calls: &[C],
+    others: &[C],
+    question: Q,
+) -> anyhow::Result<()> {
+    let mut list = [State::<Energy>::blank(); 12];
+    let mut other_list = [State::<Energy>::blank(); 12];
+    let mut levels = [0u8; 48];
+    let mut other_levels = [0u8; 48];
+    let both: TwoLives<B, Energy> = lives(
+        processor,
+        calls,
+        others,
+        question,
+        &mut list,
+        &mut levels,
+        &mut other_list,
+        &mut other_levels,
+    );
+    let first = PlanLine(&both.first.plan, &levels);
+    let second = PlanLine(&both.second.plan, &other_levels);
+    println!(rt; "{name} lives: {first} and {second}")?;
+    Ok(())
+}
+
 // In the second life a port is named twice, a task is taken off again, and plans and trials are made on the
 // way: one that is given, and others that are refused with 29, 31, 32 and 33.
 fn print_periodic_lives(rt: &HostRuntime, processor: &Processor) -> anyhow::Result<()> {
@@ -65,24 +96,7 @@ fn print_periodic_lives(rt: &HostRuntime, processor: &Processor) -> anyhow::Resu
         PeriodicCall::Retire { port: 5 },
         periodic(2, 30_000, 500),
     ];
-    let mut list = [blank::<Energy>(); 12];
-    let mut other_list = [blank::<Energy>(); 12];
-    let mut levels = [0u8; 48];
-    let mut other_levels = [0u8; 48];
-    let both = periodic_lives(
-        processor,
-        &calls,
-        &others,
-        Question::Plan,
-        &mut list,
-        &mut levels,
-        &mut other_list,
-        &mut other_levels,
-    );
-    let first = answer_text(rt.alloc(), &both.first.plan, &levels)?;
-    let second = answer_text(rt.alloc(), &both.second.plan, &other_levels)?;
-    println!(rt; "periodic lives: {first} and {second}")?;
-    Ok(())
+    print_two::<_, _, PeriodicBook>(rt, "periodic", processor, &calls, &others, Question::Plan)
 }
 
 // In the second life cycles are served, and a plan on the way has too short a list.
@@ -100,23 +114,7 @@ fn print_sporadic_lives(rt: &HostRuntime, processor: &Processor) -> anyhow::Resu
             cycles: 10_000,
         },
     ];
-    let mut list = [blank::<Energy>(); 12];
-    let mut other_list = [blank::<Energy>(); 12];
-    let mut levels = [0u8; 48];
-    let mut other_levels = [0u8; 48];
-    let both = sporadic_lives(
-        processor,
-        &calls,
-        &others,
-        &mut list,
-        &mut levels,
-        &mut other_list,
-        &mut other_levels,
-    );
-    let first = answer_text(rt.alloc(), &both.first.plan, &levels)?;
-    let second = answer_text(rt.alloc(), &both.second.plan, &other_levels)?;
-    println!(rt; "sporadic lives: {first} and {second}")?;
-    Ok(())
+    print_two::<_, _, SporadicBook>(rt, "sporadic", processor, &calls, &others, ())
 }
 
 // A line for the two lives of each book.

@@ -15,17 +15,13 @@ pub struct Energy {
 impl Kind for Energy {
     const LETTER: u8 = b'e';
 
-    ghost meaning = { energy };
+    ghost LETTER = { 101 };
 
-    ghost sign = { 101 };
+    ghost meaning = { energy };
 
     ghost numbers = { λ e. e.picojoules ∷ [] };
 
     ghost laws = { energy_laws };
-
-    fn letter_code() -> u8 {
-        <Energy as Kind>::LETTER
-    }
 
     fn number(&self, i: usize) -> Option<u64> {
         if i == 0 { Some(self.picojoules) } else { None }
@@ -52,37 +48,5 @@ impl Kind for Energy {
 }
 
 impl StrictKind for Energy {
-    const LETTER: u8 = <Energy as Kind>::LETTER;
-
-    ghost meaning = { energy };
-
-    ghost sign = { 101 };
-
-    ghost numbers = { λ e. e.picojoules ∷ [] };
-
-    ghost laws = { energy_strict };
-
-    fn letter_code() -> u8 {
-        <Energy as Kind>::letter_code()
-    }
-
-    fn number(&self, i: usize) -> Option<u64> {
-        <Energy as Kind>::number(self, i)
-    }
-
-    fn price(m: &Measure) -> Option<Energy> {
-        <Energy as Kind>::price(m)
-    }
-
-    fn zero() -> Energy {
-        <Energy as Kind>::zero()
-    }
-
-    fn add(self, other: Energy) -> Option<Energy> {
-        <Energy as Kind>::add(self, other)
-    }
-
-    fn no_dearer(&self, other: &Energy) -> bool {
-        <Energy as Kind>::no_dearer(self, other)
-    }
+    ghost strict = { energy_strict };
 }

@@ -15,17 +15,13 @@ pub struct Peak {
 impl Kind for Peak {
     const LETTER: u8 = b'p';
 
-    ghost meaning = { peak };
+    ghost LETTER = { 112 };
 
-    ghost sign = { 112 };
+    ghost meaning = { peak };
 
     ghost numbers = { λ p. p.microwatts ∷ [] };
 
     ghost laws = { peak_laws };
-
-    fn letter_code() -> u8 {
-        Self::LETTER
-    }
 
     fn number(&self, i: usize) -> Option<u64> {
         if i == 0 { Some(self.microwatts) } else { None }

@@ -1,4 +1,5 @@
-// What the library answers to a plan, in plain numbers.
+// What the library answers, in plain numbers.
+use crate::tolls::Toll;
 use board::faults::Fault;
 use cost::kinds::Kind;
 use plans::figures::Figures;
@@ -12,10 +13,8 @@ pub const MARK: u8 = 77;
 // A plan that was given.
 #[derive(Clone, Copy, PartialEq, Eq)]
 pub struct Plan {
-    // the numbers of the cost: the first, the second or 0, and how many there are
-    pub first: u64,
-    pub second: u64,
-    pub numbers: u64,
+    // none if the library's cost has not one or two numbers
+    pub toll: Option<Toll>,
     // in µs
     pub load: u64,
     // in µs
@@ -23,48 +22,34 @@ pub struct Plan {
     pub states: usize,
 }
 
-// A plan, or the number of a refusal and the port that it names.
-#[derive(Clone, Copy, PartialEq, Eq)]
-pub enum Told {
-    Given(Plan),
-    Refused { number: u8, place: u64 },
-}
-
-impl Told {
-    // The number of the answer, 0 for a plan.
-    pub fn number(&self) -> u8 {
-        match self {
-            Told::Given(_) => 0,
-            Told::Refused { number, .. } => *number,
-        }
-    }
-}
-
-// How many numbers a cost has, as far as it has no more than three.
-fn numbers_in<K: Kind>(cost: &K) -> u64 {
-    let mut count = 0u64;
-    for i in 0..3 {
-        if cost.number(i).is_some() {
-            count = count.saturating_add(1);
-        }
-    }
-    count
-}
-
-// The answer in plain numbers.
-pub fn told_of<K: Kind>(answer: Result<Figures<K>, Fault>) -> Told {
-    match answer {
-        Ok(figures) => Told::Given(Plan {
-            first: figures.cost.number(0).unwrap_or(0),
-            second: figures.cost.number(1).unwrap_or(0),
-            numbers: numbers_in(&figures.cost),
+impl<K: Kind> From<Figures<K>> for Plan {
+    fn from(figures: Figures<K>) -> Plan {
+        Plan {
+            toll: Toll::of(&figures.cost),
             load: figures.load,
             limit: figures.limit,
             states: figures.states,
-        }),
-        Err(fault) => Told::Refused {
-            number: fault.number(),
-            place: fault.place(),
-        },
+        }
     }
+}
+
+// The number of a refusal, and the port that it names, or 0.
+#[derive(Clone, Copy, PartialEq, Eq, Debug)]
+pub struct Refusal {
+    pub number: u8,
+    pub port: u64,
+}
+
+impl From<Fault> for Refusal {
+    fn from(fault: Fault) -> Refusal {
+        Refusal {
+            number: fault.number(),
+            port: fault.place(),
+        }
+    }
+}
+
+// The answer to a plan in plain numbers.
+pub fn plain<K: Kind>(answer: Result<Figures<K>, Fault>) -> Result<Plan, Refusal> {
+    answer.map(Plan::from).map_err(Refusal::from)
 }

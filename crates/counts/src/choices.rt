@@ -2,7 +2,8 @@
 use crate::differences::Difference;
 use crate::figures::Aim;
 use crate::rows::{CountedRow, Offered};
-use crate::tolls::{NO_TOLL, Toll};
+use crate::tolls::Toll;
+use std::cmp::Ordering;
 
 // The sum over some rows: cost, and load in µs. The cost is compared before the load.
 #[derive(Clone, Copy, PartialEq, Eq, PartialOrd, Ord)]
@@ -11,13 +12,15 @@ pub struct Sum {
     pub load: u64,
 }
 
-// The sum over no rows.
-pub const NO_SUM: Sum = Sum {
-    toll: NO_TOLL,
-    load: 0,
-};
-
 impl Sum {
+    // The sum over no rows.
+    pub fn nothing(aim: Aim) -> Sum {
+        Sum {
+            toll: aim.nothing(),
+            load: 0,
+        }
+    }
+
     // With one offer more.
     pub fn with_offer(&self, aim: Aim, offer: &Offered) -> Option<Sum> {
         Some(Sum {
@@ -54,50 +57,45 @@ impl Best {
 
     // With one choice more.
     fn with_choice(self, sum: Sum) -> Best {
-        if sum.toll < self.sum.toll {
-            return Best::of(sum);
-        }
-        if sum.toll > self.sum.toll {
-            return self;
-        }
-        if sum.load < self.sum.load {
-            let heavier = self.heavier.saturating_add(self.equals);
-            return Best {
-                heavier,
+        let by_toll = sum.toll.cmp(&self.sum.toll);
+        let by_load = sum.load.cmp(&self.sum.load);
+        match (by_toll, by_load) {
+            (Ordering::Less, _) => Best::of(sum),
+            (Ordering::Greater, _) => self,
+            (Ordering::Equal, Ordering::Less) => Best {
+                heavier: self.heavier.saturating_add(self.equals),
                 ..Best::of(sum)
-            };
+            },
+            (Ordering::Equal, Ordering::Greater) => Best {
+                heavier: self.heavier.saturating_add(1),
+                ..self
+            },
+            (Ordering::Equal, Ordering::Equal) => Best {
+                equals: self.equals.saturating_add(1),
+                ..self
+            },
         }
-        if sum.load > self.sum.load {
-            let heavier = self.heavier.saturating_add(1);
-            return Best { heavier, ..self };
-        }
-        let equals = self.equals.saturating_add(1);
-        Best { equals, ..self }
     }
 }
 
 // How many ways there are to give each row one of its offers.
 pub fn ways_of(rows: &[CountedRow]) -> Result<usize, Difference> {
-    let mut ways = 1usize;
-    for row in rows {
-        ways = ways
-            .checked_mul(row.offers.len())
-            .ok_or(Difference::range())?;
-    }
-    Ok(ways)
+    rows.iter()
+        .try_fold(1usize, |ways, row| ways.checked_mul(row.offers.len()))
+        .ok_or(Difference::Range)
 }
 
 // The sum of the way with this number, whose digits, the first row's the lowest, count the offers of the
 // rows; none if at some row the loads up to it pass its limit.
 pub fn way_at(aim: Aim, rows: &[CountedRow], number: usize) -> Result<Option<Sum>, Difference> {
     let mut rest = number;
-    let mut sum = NO_SUM;
+    let mut sum = Sum::nothing(aim);
     for row in rows {
         let count = row.offers.len();
-        let digit = rest.checked_rem(count).ok_or(Difference::range())?;
-        rest = rest.checked_div(count).ok_or(Difference::range())?;
-        let offer = row.offers.get(digit).ok_or(Difference::range())?;
-        sum = sum.with_offer(aim, offer).ok_or(Difference::range())?;
+        let digit = rest.checked_rem(count).ok_or(Difference::Range)?;
+        rest = rest.checked_div(count).ok_or(Difference::Range)?;
+        let offer = row.offers.get(digit).ok_or(Difference::Range)?;
+        sum = sum.with_offer(aim, offer).ok_or(Difference::Range)?;
         if sum.load > row.limit {
             return Ok(None);
         }
@@ -110,34 +108,17 @@ pub fn best_choice(aim: Aim, rows: &[CountedRow]) -> Result<Option<Best>, Differ
     let mut best: Option<Best> = None;
     for number in 0..ways_of(rows)? {
         if let Some(sum) = way_at(aim, rows, number)? {
-            best = match best {
-                Some(others) => Some(others.with_choice(sum)),
-                None => Some(Best::of(sum)),
-            };
+            best = Some(best.map_or(Best::of(sum), |others| others.with_choice(sum)));
         }
     }
     Ok(best)
 }
 
-// The least entry of a row; the cost of nothing without an offer.
-fn least_entry(offers: &[Offered]) -> Toll {
-    let mut least: Option<Toll> = None;
-    for offer in offers {
-        least = match least {
-            Some(entry) if entry <= offer.entry => Some(entry),
-            _ => Some(offer.entry),
-        };
-    }
-    least.unwrap_or(NO_TOLL)
-}
-
 // What the rows would cost at least if they had no limits.
 pub fn cost_without_limits(aim: Aim, rows: &[CountedRow]) -> Result<Toll, Difference> {
-    let mut toll = NO_TOLL;
-    for row in rows {
-        toll = aim
-            .with_entry(toll, least_entry(&row.offers))
-            .ok_or(Difference::range())?;
-    }
-    Ok(toll)
+    rows.iter()
+        .try_fold(aim.nothing(), |toll, row| {
+            aim.with_entry(toll, row.least_entry(aim))
+        })
+        .ok_or(Difference::Range)
 }

@@ -1,138 +1,175 @@
 // Why a run ends early: the library and the count differ, or the count could not be made.
+use crate::answers::Refusal;
+use crate::tolls::Toll;
 use std::alloc::{AllocError, AllocFailed};
+use std::error::Error;
 use std::fmt;
 
-// What differed.
-#[derive(Clone, Copy)]
-pub enum What {
-    // the number that a call which changes a book was answered with
-    Answer,
-    // the port that was named with a refusal
-    Place,
-    // the number that a plan was answered with
-    PlanAnswer,
-    // the first number of the cost, in the unit of the kind
-    Cost,
-    // the second number of the cost
-    SecondCost,
-    // how many numbers the cost has
-    CostNumbers,
+// A number of a plan, or of what it wrote.
+#[derive(Clone, Copy, Debug)]
+pub enum Figure {
     // µs
     Load,
     // µs
     Limit,
     States,
-    // the level written for a port
-    Level,
     // a byte of the levels buffer that belongs to no row
     Byte,
-    // whether the levels written keep every limit
-    Kept,
-    // the load, the cost, the level or the position of a place of the list
+    // the load, the level or the position of a place of the list
     ListLoad,
-    ListCost,
     ListLevel,
     ListPosition,
-    // the plan in a list that is just long enough
+}
+
+impl fmt::Display for Figure {
+    fn fmt<W: fmt::Write>(&self, f: &mut fmt::Formatter<W>) -> fmt::Result {
+        f.write_str(match self {
+            Figure::Load => "load",
+            Figure::Limit => "limit",
+            Figure::States => "states",
+            Figure::Byte => "byte without a row",
+            Figure::ListLoad => "load in the list",
+            Figure::ListLevel => "level in the list",
+            Figure::ListPosition => "position in the list",
+        })
+    }
+}
+
+// A plan that is to answer and write the same as another.
+#[derive(Clone, Copy, Debug)]
+pub enum Repeat {
+    // in a list that is just long enough
     ExactList,
-    // the refusal in an empty list
+    // in an empty list, where none fits
     NoList,
-    // the plan of a trial
+    // a trial, and the plan at its capacity
     Trial,
     // the plan after a trial
     AfterTrial,
+}
+
+impl fmt::Display for Repeat {
+    fn fmt<W: fmt::Write>(&self, f: &mut fmt::Formatter<W>) -> fmt::Result {
+        f.write_str(match self {
+            Repeat::ExactList => "plan in a list just long enough",
+            Repeat::NoList => "plan in an empty list",
+            Repeat::Trial => "trial",
+            Repeat::AfterTrial => "plan after a trial",
+        })
+    }
+}
+
+// What the library told, and what was counted.
+#[derive(Clone, Copy, Debug)]
+pub enum Difference {
+    // whether a call was refused, and with what
+    Answer {
+        told: Result<(), Refusal>,
+        counted: Result<(), Refusal>,
+    },
+    Number {
+        figure: Figure,
+        told: u64,
+        counted: u64,
+    },
+    // the cost of a plan or of a place of the list; none if the library's has not one or two numbers
+    Cost {
+        told: Option<Toll>,
+        counted: Toll,
+    },
+    // two plans that are to be the same
+    Plans(Repeat),
+    // the level that is written for a port is not offered to it
+    Level {
+        level: u8,
+        port: u64,
+    },
+    // the levels that are written pass the limit of a row: both in µs
+    Limit {
+        load: u64,
+        limit: u64,
+    },
     // a pair of a front that no level completes, with its load in µs
-    Uncompleted,
+    Uncompleted {
+        load: u64,
+    },
     // no memory
     Memory,
     // a number of the count does not fit
     Range,
 }
 
-// What the library told, and what was counted.
-#[derive(Clone, Copy)]
-pub struct Difference {
-    pub what: What,
-    pub told: u64,
-    pub counted: u64,
-}
-
-impl Difference {
-    // A number of the count does not fit its type.
-    pub fn range() -> Difference {
-        Difference {
-            what: What::Range,
-            told: 0,
-            counted: 0,
-        }
-    }
-}
-
-// An error unless the library told what was counted.
-pub fn agree(what: What, told: u64, counted: u64) -> Result<(), Difference> {
+// An error unless the library told the number that was counted.
+pub fn agree(figure: Figure, told: u64, counted: u64) -> Result<(), Difference> {
     if told == counted {
         return Ok(());
     }
-    Err(Difference {
-        what,
+    Err(Difference::Number {
+        figure,
         told,
         counted,
     })
 }
 
+// An error unless the library's cost is the one that was counted.
+pub fn agree_on_cost(told: Option<Toll>, counted: Toll) -> Result<(), Difference> {
+    if told == Some(counted) {
+        return Ok(());
+    }
+    Err(Difference::Cost { told, counted })
+}
+
+// An error unless the library refused a call with what was counted, or neither refused it.
+pub fn agree_on_answer(
+    told: Result<(), Refusal>,
+    counted: Result<(), Refusal>,
+) -> Result<(), Difference> {
+    if told == counted {
+        return Ok(());
+    }
+    Err(Difference::Answer { told, counted })
+}
+
 impl From<AllocError> for Difference {
     fn from(_e: AllocError) -> Difference {
-        Difference {
-            what: What::Memory,
-            told: 0,
-            counted: 0,
-        }
+        Difference::Memory
     }
 }
 
 impl<T: Drop> From<AllocFailed<T>> for Difference {
     fn from(_e: AllocFailed<T>) -> Difference {
-        Difference {
-            what: What::Memory,
-            told: 0,
-            counted: 0,
-        }
-    }
-}
-
-fn name_of(what: What) -> &'static str {
-    match what {
-        What::Answer => "answer of a call",
-        What::Place => "port of a refusal",
-        What::PlanAnswer => "answer of a plan",
-        What::Cost => "cost",
-        What::SecondCost => "second number of the cost",
-        What::CostNumbers => "numbers of the cost",
-        What::Load => "load",
-        What::Limit => "limit",
-        What::States => "states",
-        What::Level => "level of a port",
-        What::Byte => "byte without a row",
-        What::Kept => "limits kept",
-        What::ListLoad => "load in the list",
-        What::ListCost => "cost in the list",
-        What::ListLevel => "level in the list",
-        What::ListPosition => "position in the list",
-        What::ExactList => "plan in a list just long enough",
-        What::NoList => "plan in an empty list",
-        What::Trial => "trial",
-        What::AfterTrial => "plan after a trial",
-        What::Uncompleted => "pair that no level completes",
-        What::Memory => "memory",
-        What::Range => "range of the count",
+        Difference::Memory
     }
 }
 
 impl fmt::Display for Difference {
     fn fmt<W: fmt::Write>(&self, f: &mut fmt::Formatter<W>) -> fmt::Result {
-        let name = name_of(self.what);
-        let told = self.told;
-        let counted = self.counted;
-        write!(f, "{name}: the library told {told}, counted {counted}")
+        match self {
+            Difference::Answer { told, counted } => {
+                write!(f, "the library answered {told:?}, counted {counted:?}")
+            }
+            Difference::Number {
+                figure,
+                told,
+                counted,
+            } => write!(f, "{figure}: the library told {told}, counted {counted}"),
+            Difference::Cost { told, counted } => {
+                write!(f, "cost: the library told {told:?}, counted {counted:?}")
+            }
+            Difference::Plans(repeat) => write!(f, "another answer: {repeat}"),
+            Difference::Level { level, port } => {
+                write!(f, "level {level} is not offered to port {port}")
+            }
+            Difference::Limit { load, limit } => {
+                write!(f, "the levels have a load of {load}, the limit is {limit}")
+            }
+            Difference::Uncompleted { load } => {
+                write!(f, "no level completes a pair with a load of {load}")
+            }
+            Difference::Memory => write!(f, "out of memory"),
+            Difference::Range => write!(f, "a number of the count does not fit"),
+        }
     }
 }
+
+impl Error for Difference {}

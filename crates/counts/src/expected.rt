@@ -1,11 +1,11 @@
 // What the count says of a board, and whether a plan agrees with it.
-use crate::answers::{MARK, Plan, Told};
+use crate::answers::{MARK, Plan, Refusal};
 use crate::beginnings::first_passed;
-use crate::choices::{Best, NO_SUM, Sum, best_choice, cost_without_limits, ways_of};
-use crate::differences::{Difference, What, agree};
+use crate::choices::{Best, Sum, best_choice, cost_without_limits, ways_of};
+use crate::differences::{Difference, Figure, agree, agree_on_answer, agree_on_cost};
 use crate::figures::{Aim, Board};
 use crate::ledger::Ledger;
-use crate::places::{Fronts, count_fronts};
+use crate::places::{Place, count_fronts};
 use crate::rows::{CountedRow, Offered, rows_of};
 use crate::tolls::Toll;
 use std::alloc::Global;
@@ -23,8 +23,8 @@ pub struct Expected {
     pub best: Option<Best>,
     // what the rows would cost at least without limits
     pub free: Toll,
-    // the fronts of a board with few choices
-    pub fronts: Option<Fronts>,
+    // the list of states of a board with few choices
+    pub places: Option<Vec<Place>>,
 }
 
 // Counts all choices of what stands.
@@ -34,7 +34,7 @@ pub fn count_board(heap: Global, board: &Board, ledger: &Ledger) -> Result<Expec
     let choices = ways_of(&rows)?;
     let best = best_choice(aim, &rows)?;
     let free = cost_without_limits(aim, &rows)?;
-    let fronts = if choices <= FEW_CHOICES {
+    let places = if choices <= FEW_CHOICES {
         Some(count_fronts(heap, aim, &rows)?)
     } else {
         None
@@ -45,7 +45,7 @@ pub fn count_board(heap: Global, board: &Board, ledger: &Ledger) -> Result<Expec
         choices,
         best,
         free,
-        fronts,
+        places,
     })
 }
 
@@ -57,142 +57,97 @@ fn byte_of(levels: &[u8], port: u64) -> u8 {
 
 // The offer of the level that is written for the row.
 fn written_offer(row: &CountedRow, levels: &[u8]) -> Result<Offered, Difference> {
-    let byte = byte_of(levels, row.port);
-    for offer in row.offers.iter() {
-        if offer.level == usize::from(byte) {
-            return Ok(*offer);
-        }
-    }
-    Err(Difference {
-        what: What::Level,
-        told: u64::from(byte),
-        counted: row.port,
+    let level = byte_of(levels, row.port);
+    row.offer_at(usize::from(level)).ok_or(Difference::Level {
+        level,
+        port: row.port,
     })
 }
 
-// The sum of the levels that are written, which are offered and keep every limit.
-fn written_sum(aim: Aim, rows: &[CountedRow], levels: &[u8]) -> Result<Sum, Difference> {
-    let mut sum = NO_SUM;
-    for row in rows {
-        let offer = written_offer(row, levels)?;
-        sum = sum.with_offer(aim, &offer).ok_or(Difference::range())?;
-        if sum.load > row.limit {
-            return Err(Difference {
-                what: What::Kept,
-                told: sum.load,
-                counted: row.limit,
-            });
-        }
-    }
-    Ok(sum)
-}
-
-fn has_row(rows: &[CountedRow], port: u64) -> bool {
-    for row in rows {
-        if row.port == port {
-            return true;
-        }
-    }
-    false
-}
-
-// The bytes of ports without a task are 255, and those behind port 48 are as they were.
-fn compare_bytes(rows: &[CountedRow], levels: &[u8]) -> Result<(), Difference> {
-    let mut port = 0u64;
-    for byte in levels {
-        port = port.saturating_add(1);
-        if !has_row(rows, port) {
-            let blank = if port > 48 { MARK } else { 255 };
-            agree(What::Byte, u64::from(*byte), u64::from(blank))?;
-        }
-    }
-    Ok(())
-}
-
-// No byte was written.
-fn compare_untouched(levels: &[u8]) -> Result<(), Difference> {
-    for byte in levels {
-        agree(What::Byte, u64::from(*byte), u64::from(MARK))?;
-    }
-    Ok(())
-}
-
-// The limit of the last row in µs, 0 without a row.
-fn last_limit(rows: &[CountedRow]) -> u64 {
-    match rows.last() {
-        Some(row) => row.limit,
-        None => 0,
-    }
-}
-
 // Cost and load of the plan are these.
-fn compare_sum(aim: Aim, plan: &Plan, sum: &Sum) -> Result<(), Difference> {
-    agree(What::CostNumbers, plan.numbers, aim.numbers())?;
-    agree(What::Cost, plan.first, sum.toll.first)?;
-    agree(What::SecondCost, plan.second, sum.toll.second)?;
-    agree(What::Load, plan.load, sum.load)
+fn compare_sum(plan: &Plan, sum: &Sum) -> Result<(), Difference> {
+    agree_on_cost(plan.toll, sum.toll)?;
+    agree(Figure::Load, plan.load, sum.load)
 }
 
 impl Expected {
-    // A given plan is the best choice: its figures, and the levels that are written.
-    fn compare_given(&self, plan: &Plan, best: &Sum, levels: &[u8]) -> Result<(), Difference> {
-        compare_sum(self.aim, plan, best)?;
-        agree(What::Limit, plan.limit, last_limit(&self.rows))?;
-        let written = written_sum(self.aim, &self.rows, levels)?;
-        compare_sum(self.aim, plan, &written)?;
-        compare_bytes(&self.rows, levels)?;
-        if let Some(fronts) = &self.fronts {
-            let states = fronts.places.len();
-            agree(What::States, plan.states as u64, states as u64)?;
+    // The sum of the levels that are written, which are offered and keep every limit.
+    fn written_sum(&self, levels: &[u8]) -> Result<Sum, Difference> {
+        let mut sum = Sum::nothing(self.aim);
+        for row in self.rows.iter() {
+            let offer = written_offer(row, levels)?;
+            sum = sum.with_offer(self.aim, &offer).ok_or(Difference::Range)?;
+            if sum.load > row.limit {
+                return Err(Difference::Limit {
+                    load: sum.load,
+                    limit: row.limit,
+                });
+            }
+        }
+        Ok(sum)
+    }
+
+    // The bytes of ports without a task are 255, and those behind port 48 are as they were.
+    fn compare_bytes(&self, levels: &[u8]) -> Result<(), Difference> {
+        for (port, byte) in (1u64..).zip(levels.iter()) {
+            if !self.rows.iter().any(|row| row.port == port) {
+                let blank = if port > 48 { MARK } else { 255 };
+                agree(Figure::Byte, u64::from(*byte), u64::from(blank))?;
+            }
         }
         Ok(())
     }
 
-    // None fits: the refusal names the first row whose limit even the smallest loads pass.
-    fn compare_refused(&self, number: u8, place: u64, levels: &[u8]) -> Result<(), Difference> {
-        agree(What::PlanAnswer, u64::from(number), 32)?;
+    // The limit of the last row in µs, 0 without a row.
+    fn last_limit(&self) -> u64 {
+        self.rows.last().map_or(0, |row| row.limit)
+    }
+
+    // A given plan is the best choice: its figures, and the levels that are written.
+    fn compare_given(&self, plan: &Plan, best: &Sum, levels: &[u8]) -> Result<(), Difference> {
+        compare_sum(plan, best)?;
+        agree(Figure::Limit, plan.limit, self.last_limit())?;
+        compare_sum(plan, &self.written_sum(levels)?)?;
+        self.compare_bytes(levels)?;
+        if let Some(places) = &self.places {
+            agree(Figure::States, plan.states as u64, places.len() as u64)?;
+        }
+        Ok(())
+    }
+
+    // Where none fits, the refusal names the first row whose limit even the smallest loads pass.
+    fn none_fits(&self) -> Result<Refusal, Difference> {
         let passed = first_passed(0, &self.rows)?;
-        agree(What::Place, place, passed.unwrap_or(0))?;
-        compare_untouched(levels)
+        Ok(Refusal {
+            number: 32,
+            port: passed.unwrap_or(0),
+        })
     }
 
     // The answer to a plan in a list that is long enough agrees with the count.
-    pub fn compare(&self, told: &Told, levels: &[u8]) -> Result<(), Difference> {
+    pub fn compare(&self, told: &Result<Plan, Refusal>, levels: &[u8]) -> Result<(), Difference> {
         match (told, &self.best) {
-            (Told::Given(plan), Some(best)) => self.compare_given(plan, &best.sum, levels),
-            (Told::Given(_), None) => agree(What::PlanAnswer, 0, 32),
-            (Told::Refused { number, place }, None) => {
-                self.compare_refused(*number, *place, levels)
-            }
-            (Told::Refused { number, .. }, Some(_)) => {
-                agree(What::PlanAnswer, u64::from(*number), 0)
-            }
+            (Ok(plan), Some(best)) => self.compare_given(plan, &best.sum, levels),
+            (Err(refusal), Some(_)) => agree_on_answer(Err(*refusal), Ok(())),
+            (_, None) => compare_refusal(told, self.none_fits()?, levels),
         }
     }
 
     // The port of the last row; 0 without a row.
     pub fn last_port(&self) -> u64 {
-        match self.rows.last() {
-            Some(row) => row.port,
-            None => 0,
-        }
+        self.rows.last().map_or(0, |row| row.port)
     }
 }
 
-// The plan was refused with this number, for this port, and no byte was written.
+// The plan was refused with this, and no byte was written.
 pub fn compare_refusal(
-    told: &Told,
-    number: u8,
-    port: u64,
+    told: &Result<Plan, Refusal>,
+    counted: Refusal,
     levels: &[u8],
 ) -> Result<(), Difference> {
-    agree(
-        What::PlanAnswer,
-        u64::from(told.number()),
-        u64::from(number),
-    )?;
-    if let Told::Refused { place, .. } = told {
-        agree(What::Place, *place, port)?;
+    agree_on_answer(told.map(|_| ()), Err(counted))?;
+    for byte in levels {
+        agree(Figure::Byte, u64::from(*byte), u64::from(MARK))?;
     }
-    compare_untouched(levels)
+    Ok(())
 }

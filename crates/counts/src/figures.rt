@@ -72,8 +72,5 @@ pub struct Board {
 
 // The speed of the top level in MHz; 0 without a level.
 pub fn top_mhz(levels: &[Level]) -> u64 {
-    match levels.last() {
-        Some(level) => level.mhz,
-        None => 0,
-    }
+    levels.last().map_or(0, |level| level.mhz)
 }

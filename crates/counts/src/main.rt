@@ -18,13 +18,16 @@ mod rows;
 mod tolls;
 mod totals;
 
+use crate::books::Book;
 use crate::comparing::{Extras, compare_board};
 use crate::differences::Difference;
-use crate::figures::{Aim, Rule};
+use crate::figures::{Aim, Board, Rule};
 use crate::making::make_board;
 use crate::numbers::Numbers;
 use crate::totals::Totals;
-use anyhow::anyhow;
+use anyhow::Context;
+use book::periodic::PeriodicBook;
+use book::sporadic::SporadicBook;
 use cost::energies::Energy;
 use cost::pairs::Pair;
 use cost::peaks::Peak;
@@ -71,7 +74,22 @@ fn make_extras(numbers: &mut Numbers, rule: Rule) -> Extras {
     }
 }
 
-// Makes the next board, and compares it under its kind of cost.
+// Compares the board in a book of its rule, under its kind of cost.
+fn compare_in<B: Book>(
+    heap: Global,
+    board: &Board,
+    extras: &Extras,
+    totals: &mut Totals,
+) -> Result<(), Difference> {
+    match board.aim {
+        Aim::Energy => compare_board::<Energy, B>(heap, board, extras, totals),
+        Aim::Peak => compare_board::<Peak, B>(heap, board, extras, totals),
+        Aim::Both => compare_board::<Pair<Energy, Peak>, B>(heap, board, extras, totals),
+        Aim::Hot => compare_board::<Hot, B>(heap, board, extras, totals),
+    }
+}
+
+// Makes the next board, and compares it.
 fn compare_next(
     heap: Global,
     numbers: &mut Numbers,
@@ -81,11 +99,9 @@ fn compare_next(
     let rule = rule_of(number);
     let board = make_board(heap, numbers, rule, aim_of(number))?;
     let extras = make_extras(numbers, rule);
-    match board.aim {
-        Aim::Energy => compare_board::<Energy>(heap, &board, &extras, totals),
-        Aim::Peak => compare_board::<Peak>(heap, &board, &extras, totals),
-        Aim::Both => compare_board::<Pair<Energy, Peak>>(heap, &board, &extras, totals),
-        Aim::Hot => compare_board::<Hot>(heap, &board, &extras, totals),
+    match rule {
+        Rule::Periodic => compare_in::<PeriodicBook>(heap, &board, &extras, totals),
+        Rule::Sporadic => compare_in::<SporadicBook>(heap, &board, &extras, totals),
     }
 }
 
@@ -93,10 +109,9 @@ fn run(rt: &HostRuntime) -> anyhow::Result<()> {
     let mut numbers = Numbers::from_seed(SEED);
     let mut totals = Totals::none();
     for number in 0..BOARDS {
-        if let Err(difference) = compare_next(rt.alloc(), &mut numbers, number, &mut totals) {
-            let text = format!(in rt.alloc(); "board {number}: {difference}")?;
-            return Err(anyhow!(text));
-        }
+        compare_next(rt.alloc(), &mut numbers, number, &mut totals).context(format_args!(
+            "board {number}"
+        ))?;
     }
     totals.print(rt)?;
     println!(rt; "all {BOARDS} boards agree")?;

@@ -1,5 +1,5 @@
 // Boards made of numbers: the processor, and the calls that fill its book.
-use crate::asking::{Plot, make_steps};
+use crate::asking::Plot;
 use crate::differences::Difference;
 use crate::figures::{Aim, Board, Rule, top_mhz};
 use crate::numbers::Numbers;
@@ -10,7 +10,7 @@ use std::alloc::Global;
 const MOST_CHOICES: u64 = 50_000;
 
 // a board has no more tasks than this
-const MOST_ASKS: u64 = 7;
+const MOST_ASKS: u32 = 7;
 
 // How the figures of a board hang together.
 #[derive(Clone, Copy)]
@@ -25,36 +25,32 @@ pub enum Family {
     Vast,
 }
 
-// A level one number up: speed in MHz and power in mW rise, the power by the factor.
-fn next_level(
-    numbers: &mut Numbers,
-    family: Family,
-    count: u64,
-    factor: u64,
-    below: Level,
-) -> Level {
-    match family {
-        Family::Even => Level {
-            mhz: count.saturating_mul(100),
-            mw: count.saturating_mul(1_500).saturating_mul(factor),
-        },
-        Family::Steep => Level {
-            mhz: count.saturating_mul(100),
-            mw: count
-                .saturating_mul(count)
-                .saturating_mul(200)
-                .saturating_mul(factor),
-        },
-        Family::Vast => Level {
-            mhz: count.saturating_mul(500),
-            mw: count.saturating_mul(7_500),
-        },
-        Family::Loose => Level {
-            mhz: below.mhz.saturating_add(numbers.up_to(500)),
-            mw: below
-                .mw
-                .saturating_add(numbers.up_to(factor.saturating_mul(1_800))),
-        },
+impl Family {
+    // A level one number up: speed in MHz and power in mW rise, the power by the factor.
+    fn next_level(self, numbers: &mut Numbers, count: u64, factor: u64, below: Level) -> Level {
+        match self {
+            Family::Even => Level {
+                mhz: count.saturating_mul(100),
+                mw: count.saturating_mul(1_500).saturating_mul(factor),
+            },
+            Family::Steep => Level {
+                mhz: count.saturating_mul(100),
+                mw: count
+                    .saturating_mul(count)
+                    .saturating_mul(200)
+                    .saturating_mul(factor),
+            },
+            Family::Vast => Level {
+                mhz: count.saturating_mul(500),
+                mw: count.saturating_mul(7_500),
+            },
+            Family::Loose => Level {
+                mhz: below.mhz.saturating_add(numbers.up_to(500)),
+                mw: below
+                    .mw
+                    .saturating_add(numbers.up_to(factor.saturating_mul(1_800))),
+            },
+        }
     }
 }
 
@@ -68,8 +64,8 @@ fn make_levels(
     let factor = numbers.pick(&[1, 2, 4]);
     let mut levels = Vec::new(heap);
     let mut level = Level { mhz: 0, mw: 0 };
-    for i in 0..most {
-        level = next_level(numbers, family, i.saturating_add(1), factor, level);
+    for count in 1..=most {
+        level = family.next_level(numbers, count, factor, level);
         levels.push(level)?;
     }
     Ok(levels)
@@ -87,14 +83,10 @@ fn make_standby(heap: Global, numbers: &mut Numbers) -> Result<Vec<u64>, Differe
 
 // The most tasks of so many levels each that have no more choices than a board may have.
 fn most_asks(levels: u64) -> u64 {
-    let mut choices = 1u64;
-    for asks in 0..MOST_ASKS {
-        choices = choices.saturating_mul(levels);
-        if choices > MOST_CHOICES {
-            return asks;
-        }
-    }
-    MOST_ASKS
+    (1..=MOST_ASKS)
+        .take_while(|asks| levels.saturating_pow(*asks) <= MOST_CHOICES)
+        .last()
+        .map_or(0, u64::from)
 }
 
 fn make_family(numbers: &mut Numbers) -> Family {
@@ -124,7 +116,7 @@ pub fn make_board(
         devices: standby.len(),
         asks: numbers.up_to(most).max(numbers.up_to(most)),
     };
-    let steps = make_steps(heap, numbers, &plot)?;
+    let steps = plot.make_steps(heap, numbers)?;
     Ok(Board {
         rule,
         aim,

@@ -1,7 +1,7 @@
 // The list of states that a plan leaves, counted from what the fronts are.
 use crate::beginnings::front_of;
-use crate::choices::{NO_SUM, Sum};
-use crate::differences::{Difference, What};
+use crate::choices::Sum;
+use crate::differences::Difference;
 use crate::figures::Aim;
 use crate::rows::{CountedRow, Offered};
 use std::alloc::Global;
@@ -9,6 +9,8 @@ use std::alloc::Global;
 // A place of the list.
 #[derive(Clone, Copy)]
 pub struct Place {
+    // the port of the front's row
+    pub port: u64,
     pub sum: Sum,
     // the lowest level of the front's row that completes a pair of the front before to this one
     pub level: usize,
@@ -16,91 +18,64 @@ pub struct Place {
     pub position: usize,
 }
 
-// All fronts, from front 1 on.
+// A front that another comes after.
 #[derive(Drop)]
-pub struct Fronts {
-    pub sizes: Vec<usize>,
-    pub places: Vec<Place>,
-}
-
-// The index of the pair that the offer completes to this one.
-fn completed_by(aim: Aim, front: &[Sum], offer: &Offered, pair: &Sum) -> Option<usize> {
-    for (index, before) in front.iter().enumerate() {
-        if let Some(sum) = before.with_offer(aim, offer) {
-            if sum == *pair {
-                return Some(index);
-            }
-        }
-    }
-    None
-}
-
-// The place of a pair. `base` is the position of the first pair of the front before, 0 of front 0.
-fn place_of(
-    aim: Aim,
-    row: &CountedRow,
-    front: &[Sum],
+struct Before {
+    pairs: Vec<Sum>,
+    // the position of its first pair, 0 of front 0
     base: usize,
-    pair: &Sum,
-) -> Result<Place, Difference> {
-    for offer in row.offers.iter() {
-        if let Some(index) = completed_by(aim, front, offer, pair) {
-            return Ok(Place {
-                sum: *pair,
-                level: offer.level,
-                position: base.saturating_add(index),
-            });
-        }
-    }
-    Err(Difference {
-        what: What::Uncompleted,
-        told: 0,
-        counted: pair.load,
-    })
 }
 
-// Lays a front behind the places that there are. `base` is the position of the first pair of the front before.
-fn lay(
-    aim: Aim,
-    row: &CountedRow,
-    before: &[Sum],
-    base: usize,
-    front: &[Sum],
-    places: &mut Vec<Place>,
-) -> Result<(), Difference> {
-    for pair in front {
-        places.push(place_of(aim, row, before, base, pair)?)?;
+impl Before {
+    // Front 0, which has the pair of nothing.
+    fn first(heap: Global, aim: Aim) -> Result<Before, Difference> {
+        Ok(Before {
+            pairs: vec![in heap; Sum::nothing(aim)]?,
+            base: 0,
+        })
     }
-    Ok(())
+
+    // The index of the pair that the offer completes to this one.
+    fn completed_by(&self, aim: Aim, offer: &Offered, pair: &Sum) -> Option<usize> {
+        self.pairs
+            .iter()
+            .position(|before| before.with_offer(aim, offer) == Some(*pair))
+    }
+
+    // The place of a pair in the front of the row.
+    fn place_of(&self, aim: Aim, row: &CountedRow, pair: &Sum) -> Result<Place, Difference> {
+        row.offers
+            .iter()
+            .find_map(|offer| {
+                let index = self.completed_by(aim, offer, pair)?;
+                Some(Place {
+                    port: row.port,
+                    sum: *pair,
+                    level: offer.level,
+                    position: self.base.saturating_add(index),
+                })
+            })
+            .ok_or(Difference::Uncompleted { load: pair.load })
+    }
 }
 
-// The fronts of the rows, one behind the other.
-pub fn count_fronts(heap: Global, aim: Aim, rows: &[CountedRow]) -> Result<Fronts, Difference> {
-    let mut sizes = Vec::new(heap);
+// The places of the fronts of the rows, one front behind the other.
+pub fn count_fronts(heap: Global, aim: Aim, rows: &[CountedRow]) -> Result<Vec<Place>, Difference> {
     let mut places = Vec::new(heap);
-    let mut before = Vec::new(heap);
-    before.push(NO_SUM)?;
-    let mut base = 0usize;
+    let mut before = Before::first(heap, aim)?;
     for (i, row) in rows.iter().enumerate() {
         let (first, later) = rows.split_at(i + 1);
-        let front = front_of(heap, aim, first, later)?;
-        let start = places.len();
-        lay(aim, row, &before, base, &front, &mut places)?;
-        sizes.push(front.len())?;
-        base = start.saturating_add(1);
-        before = front;
+        let pairs = front_of(heap, aim, first, later)?;
+        let base = places.len().saturating_add(1);
+        for pair in pairs.iter() {
+            places.push(before.place_of(aim, row, pair)?)?;
+        }
+        before = Before { pairs, base };
     }
-    Ok(Fronts { sizes, places })
+    Ok(places)
 }
 
 // The port of the first row whose front has no room in a list of so many places; 0 if all have.
-pub fn first_without_room(rows: &[CountedRow], sizes: &[usize], room: usize) -> u64 {
-    let mut states = 0usize;
-    for (row, size) in rows.iter().zip(sizes.iter()) {
-        states = states.saturating_add(*size);
-        if states > room {
-            return row.port;
-        }
-    }
-    0
+pub fn first_without_room(places: &[Place], room: usize) -> u64 {
+    places.get(room).map_or(0, |place| place.port)
 }

@@ -1,6 +1,6 @@
 // The rows of a board, measured in plain numbers.
 use crate::differences::Difference;
-use crate::figures::{Ask, Board, Rule};
+use crate::figures::{Aim, Ask, Board, Rule};
 use crate::ledger::{Ledger, busy_time, joint_period};
 use crate::tolls::Toll;
 use board::levels::Level;
@@ -18,7 +18,7 @@ pub struct Offered {
     pub entry: Toll,
 }
 
-// A standing task.
+// The row of a standing task.
 #[derive(Drop)]
 pub struct CountedRow {
     pub port: u64,
@@ -28,99 +28,120 @@ pub struct CountedRow {
     pub offers: Vec<Offered>,
 }
 
-// A place in the order of the rows: by deadline in a sporadic book, and then by port.
-#[derive(Clone, Copy, PartialEq, Eq, PartialOrd, Ord)]
-struct Turn {
-    // deadline in µs, 0 for a periodic task
-    deadline: u64,
-    port: u64,
-    // where the task stands in the ledger
-    place: usize,
+impl CountedRow {
+    // The smallest load that is offered, in µs; 0 of no offers.
+    pub fn smallest_load(&self) -> u64 {
+        self.offers
+            .iter()
+            .map(|offer| offer.load)
+            .min()
+            .unwrap_or(0)
+    }
+
+    // The least entry that is offered; the cost of nothing without an offer.
+    pub fn least_entry(&self, aim: Aim) -> Toll {
+        self.offers
+            .iter()
+            .map(|offer| offer.entry)
+            .min()
+            .unwrap_or(aim.nothing())
+    }
+
+    // What is offered at this level.
+    pub fn offer_at(&self, level: usize) -> Option<Offered> {
+        self.offers
+            .iter()
+            .find(|offer| offer.level == level)
+            .copied()
+    }
 }
 
 // The draw in µW: the level's power, and of each device its standby power, both in mW, times its share.
 fn draw_at(level: &Level, standby: &[u64], shares: &[u64]) -> Option<u64> {
-    let mut draw = level.mw.checked_mul(1_000)?;
-    for (power, share) in standby.iter().zip(shares.iter()) {
-        draw = draw.checked_add(power.checked_mul(*share)?)?;
-    }
-    Some(draw)
-}
-
-// The longest busy time at which a level is offered, in µs.
-fn longest_busy(rule: Rule, ask: &Ask) -> u64 {
-    match rule {
-        Rule::Periodic => ask.due,
-        Rule::Sporadic => LONGEST_BUSY,
-    }
-}
-
-// How often the task runs in the hyperperiod, which is in µs.
-fn jobs_of(rule: Rule, ask: &Ask, hyperperiod: u64) -> Option<u64> {
-    match rule {
-        Rule::Periodic => hyperperiod.checked_div(ask.due),
-        Rule::Sporadic => Some(1),
-    }
-}
-
-// What the level offers a task that has so many jobs and is busy for so many µs with each.
-fn offer_at(board: &Board, ask: &Ask, jobs: u64, number: usize, busy: u64) -> Option<Offered> {
-    let level = board.levels.get(number)?;
-    let draw = draw_at(level, &board.standby, ask.shares.listed())?;
-    // in pJ; the access energy is in nJ
-    let run = draw.checked_mul(busy)?;
-    let job = run.checked_add(ask.access.checked_mul(1_000)?)?;
-    let energy = job.checked_mul(jobs)?;
-    Some(Offered {
-        level: number,
-        load: busy.checked_mul(jobs)?,
-        entry: board.aim.entry(energy, draw),
+    let mut devices = standby.iter().zip(shares.iter());
+    devices.try_fold(level.mw.checked_mul(1_000)?, |draw, (power, share)| {
+        draw.checked_add(power.checked_mul(*share)?)
     })
 }
 
-// What the levels offer the task, from the lowest on.
-fn offers_of(
-    heap: Global,
-    board: &Board,
-    ask: &Ask,
+// A standing task, among those of its board.
+#[derive(Clone, Copy)]
+struct Standing<'a> {
+    board: &'a Board,
+    ask: &'a Ask,
+    // in µs; 1 for sporadic tasks
     hyperperiod: u64,
-) -> Result<Vec<Offered>, Difference> {
-    let jobs = jobs_of(board.rule, ask, hyperperiod).ok_or(Difference::range())?;
-    let mut offers = Vec::new(heap);
-    for (number, level) in board.levels.iter().enumerate() {
-        let busy = busy_time(ask.cycles, level.mhz).ok_or(Difference::range())?;
-        if busy <= longest_busy(board.rule, ask) {
-            let offer = offer_at(board, ask, jobs, number, busy).ok_or(Difference::range())?;
-            offers.push(offer)?;
+}
+
+impl Standing<'_> {
+    // The longest busy time at which a level is offered, in µs.
+    fn longest_busy(&self) -> u64 {
+        match self.board.rule {
+            Rule::Periodic => self.ask.due,
+            Rule::Sporadic => LONGEST_BUSY,
         }
     }
-    Ok(offers)
+
+    // How often the task runs in the hyperperiod.
+    fn jobs(&self) -> Option<u64> {
+        match self.board.rule {
+            Rule::Periodic => self.hyperperiod.checked_div(self.ask.due),
+            Rule::Sporadic => Some(1),
+        }
+    }
+
+    // What the level with this number offers the task, which is busy for so many µs with each job.
+    fn offer(&self, number: usize, level: &Level, busy: u64) -> Option<Offered> {
+        let jobs = self.jobs()?;
+        let draw = draw_at(level, &self.board.standby, self.ask.shares.listed())?;
+        // in pJ; the access energy is in nJ
+        let run = draw.checked_mul(busy)?;
+        let job = run.checked_add(self.ask.access.checked_mul(1_000)?)?;
+        let energy = job.checked_mul(jobs)?;
+        Some(Offered {
+            level: number,
+            load: busy.checked_mul(jobs)?,
+            entry: self.board.aim.entry(energy, draw),
+        })
+    }
+
+    // What the levels offer the task, from the lowest on.
+    fn offers(&self, heap: Global) -> Result<Vec<Offered>, Difference> {
+        let mut offers = Vec::new(heap);
+        for (number, level) in self.board.levels.iter().enumerate() {
+            let busy = busy_time(self.ask.cycles, level.mhz).ok_or(Difference::Range)?;
+            if busy <= self.longest_busy() {
+                let offer = self.offer(number, level, busy);
+                offers.push(offer.ok_or(Difference::Range)?)?;
+            }
+        }
+        Ok(offers)
+    }
+
+    // The limit of the task's row in µs.
+    fn limit(&self, ledger: &Ledger) -> Option<u64> {
+        match self.board.rule {
+            Rule::Periodic => Some(self.hyperperiod.checked_mul(ledger.capacity)? / 1_000),
+            Rule::Sporadic => Some(self.ask.due.saturating_sub(ledger.clock)),
+        }
+    }
+
+    // The task's row.
+    fn row(&self, heap: Global, ledger: &Ledger) -> Result<CountedRow, Difference> {
+        Ok(CountedRow {
+            port: self.ask.port,
+            limit: self.limit(ledger).ok_or(Difference::Range)?,
+            offers: self.offers(heap)?,
+        })
+    }
 }
 
-// The limit of the task's row in µs.
-fn limit_of(rule: Rule, ledger: &Ledger, ask: &Ask, hyperperiod: u64) -> Option<u64> {
+// The place in the order of the rows: by deadline in a sporadic book, and then by port.
+fn turn_of(rule: Rule, ask: &Ask) -> (Option<u64>, u64) {
     match rule {
-        Rule::Periodic => Some(hyperperiod.checked_mul(ledger.capacity)? / 1_000),
-        Rule::Sporadic => Some(ask.due.saturating_sub(ledger.clock)),
+        Rule::Periodic => (None, ask.port),
+        Rule::Sporadic => (Some(ask.due), ask.port),
     }
-}
-
-// The order of the rows.
-fn turns_of(heap: Global, rule: Rule, standing: &[Ask]) -> Result<Vec<Turn>, Difference> {
-    let mut turns = Vec::new(heap);
-    for (place, ask) in standing.iter().enumerate() {
-        let deadline = match rule {
-            Rule::Periodic => 0,
-            Rule::Sporadic => ask.due,
-        };
-        turns.push(Turn {
-            deadline,
-            port: ask.port,
-            place,
-        })?;
-    }
-    turns.sort()?;
-    Ok(turns)
 }
 
 // The hyperperiod in µs; 1 for sporadic tasks.
@@ -138,20 +159,17 @@ pub fn rows_of(
     ledger: &Ledger,
 ) -> Result<Vec<CountedRow>, Difference> {
     let rule = board.rule;
-    let hyperperiod = hyperperiod_of(rule, &ledger.standing).ok_or(Difference::range())?;
-    let turns = turns_of(heap, rule, &ledger.standing)?;
+    let hyperperiod = hyperperiod_of(rule, &ledger.standing).ok_or(Difference::Range)?;
+    let mut asks = ledger.standing.clone()?;
+    asks.sort_by_key(|ask| turn_of(rule, ask))?;
     let mut rows = Vec::new(heap);
-    for turn in turns.iter() {
-        let ask = ledger
-            .standing
-            .get(turn.place)
-            .copied()
-            .ok_or(Difference::range())?;
-        rows.push(CountedRow {
-            port: ask.port,
-            limit: limit_of(rule, ledger, &ask, hyperperiod).ok_or(Difference::range())?,
-            offers: offers_of(heap, board, &ask, hyperperiod)?,
-        })?;
+    for ask in asks.iter() {
+        let task = Standing {
+            board,
+            ask,
+            hyperperiod,
+        };
+        rows.push(task.row(heap, ledger)?)?;
     }
     Ok(rows)
 }

@@ -1,4 +1,5 @@
 // What a run has seen, and its summary.
+use crate::answers::{Plan, Refusal};
 use crate::expected::Expected;
 use crate::figures::{Aim, Rule};
 use std::{fmt, io};
@@ -10,7 +11,7 @@ const NUMBERS: usize = 34;
 const TASK_COUNTS: usize = 8;
 
 // How many boards there were of each aim.
-#[derive(Clone, Copy)]
+#[derive(Clone, Copy, Default)]
 struct ByAim {
     energy: u64,
     peak: u64,
@@ -18,23 +19,16 @@ struct ByAim {
     hot: u64,
 }
 
-// No boards.
-const NO_BOARDS: ByAim = ByAim {
-    energy: 0,
-    peak: 0,
-    both: 0,
-    hot: 0,
-};
-
 impl ByAim {
     // One board more.
     fn note(&mut self, aim: Aim) {
-        match aim {
-            Aim::Energy => self.energy = self.energy.saturating_add(1),
-            Aim::Peak => self.peak = self.peak.saturating_add(1),
-            Aim::Both => self.both = self.both.saturating_add(1),
-            Aim::Hot => self.hot = self.hot.saturating_add(1),
-        }
+        let boards = match aim {
+            Aim::Energy => &mut self.energy,
+            Aim::Peak => &mut self.peak,
+            Aim::Both => &mut self.both,
+            Aim::Hot => &mut self.hot,
+        };
+        one_more(boards);
     }
 }
 
@@ -71,17 +65,17 @@ pub struct Totals {
     refusals: [u64; NUMBERS],
 }
 
-// One more than the count if something was seen.
-fn one_more_if(seen: bool, count: u64) -> u64 {
-    if seen { count.saturating_add(1) } else { count }
+// One more was seen.
+fn one_more(times: &mut u64) {
+    *times = times.saturating_add(1);
 }
 
 impl Totals {
     // Of no boards.
     pub fn none() -> Totals {
         Totals {
-            periodic: NO_BOARDS,
-            sporadic: NO_BOARDS,
+            periodic: ByAim::default(),
+            sporadic: ByAim::default(),
             tasks: [0; TASK_COUNTS],
             choices: 0,
             states: 0,
@@ -99,37 +93,44 @@ impl Totals {
             Rule::Periodic => self.periodic.note(aim),
             Rule::Sporadic => self.sporadic.note(aim),
         }
-        if tasks < TASK_COUNTS {
-            self.tasks[tasks] = self.tasks[tasks].saturating_add(1);
+        if let Some(boards) = self.tasks.get_mut(tasks) {
+            one_more(boards);
         }
     }
 
     // One count of all choices more.
     pub fn note_count(&mut self, expected: &Expected) {
         self.choices = self.choices.saturating_add(expected.choices as u64);
-        if let Some(fronts) = &expected.fronts {
-            self.states = self.states.saturating_add(fronts.places.len() as u64);
+        if let Some(places) = &expected.places {
+            self.states = self.states.saturating_add(places.len() as u64);
         }
         if let Some(best) = &expected.best {
-            self.bound = one_more_if(best.sum.toll != expected.free, self.bound);
-            self.tied = one_more_if(best.equals > 1, self.tied);
-            self.heavier = one_more_if(best.heavier > 0, self.heavier);
+            if best.sum.toll != expected.free {
+                one_more(&mut self.bound);
+            }
+            if best.equals > 1 {
+                one_more(&mut self.tied);
+            }
+            if best.heavier > 0 {
+                one_more(&mut self.heavier);
+            }
         }
     }
 
-    // One plan more, or one refusal with this number; 0 is no refusal.
-    pub fn note_plan(&mut self, number: u8) {
-        if number == 0 {
-            self.plans = self.plans.saturating_add(1);
+    // One plan more, given or refused.
+    pub fn note_plan(&mut self, told: &Result<Plan, Refusal>) {
+        if told.is_ok() {
+            one_more(&mut self.plans);
         }
-        self.note_answer(number);
+        self.note_answer(&told.map(|_| ()));
     }
 
-    // One refusal with this number more; 0 is no refusal.
-    pub fn note_answer(&mut self, number: u8) {
-        let place = usize::from(number);
-        if place < NUMBERS {
-            self.refusals[place] = self.refusals[place].saturating_add(1);
+    // One refusal more, if it is one.
+    pub fn note_answer(&mut self, told: &Result<(), Refusal>) {
+        if let Err(refusal) = told {
+            if let Some(times) = self.refusals.get_mut(usize::from(refusal.number)) {
+                one_more(times);
+            }
         }
     }
 
@@ -143,9 +144,8 @@ impl Totals {
 
     // A line for each refusal that came.
     fn print_refusals(&self, rt: &HostRuntime) -> io::Result<()> {
-        for number in 1..NUMBERS {
-            let times = self.refusals[number];
-            if times > 0 {
+        for (number, times) in self.refusals.iter().enumerate() {
+            if *times > 0 {
                 println!(rt; "refused with {number}: {times}")?;
             }
         }

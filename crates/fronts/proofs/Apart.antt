@@ -1,7 +1,7 @@
 -- Rows with ports of their own.
-use Rattle.std.proofs.Common.{◌≡◌, ℕ, min, Bool, true, false, not, ◌&&◌, eqb, List, [], ◌∷◌, ◌++◌, length, sym, refl, ap, ◌∙◌, arith}
-use Rattle.std.proofs.lemmas.List.{length-take}
+use Rattle.std.proofs.Common.{◌≡◌, ℕ, ◌≤◌, Bool, true, false, not, ◌&&◌, eqb, List, [], ◌∷◌, ◌++◌, length, sym, refl, ap, ◌∙◌, arith}
 use Rattle.std.proofs.lemmas.Bool.{and_from, and_parts, eqb-true, eq-eqb}
+use Rattle.shortlist.proofs.Counting.{listed_few}
 use Rattle.fronts.specs.declared.row.Row.{Row}
 use Rattle.fronts.specs.declared.rows.Rows.{Rows}
 use Rattle.board.specs.Processors.{between}
@@ -34,9 +34,6 @@ fit_push (s ∷ rs) r all new =
     and_from _ _ (and_from _ _ here.0 (and_from _ _ more.0 (free_push s.port rs r more.1 (other_way s.port r.port apart.0))))
     (fit_push rs r old.1 (and_from _ _ range.0 (and_from _ _ offers.0 apart.1)))
 
--- as many rows are listed as are counted
-pub counted : (rs : Rows) → length (listed_rows rs) ≡ rs.count
-counted rs = length-take rs.count rs.rows ∙ least
-  where
-    least : min rs.count (length rs.rows) ≡ rs.count
-    least = omega (arith, rs.places, rs.few)
+-- at most 48 rows are listed
+pub counted : (rs : Rows) → length (listed_rows rs) ≤ 48
+counted rs = listed_few rs.rows

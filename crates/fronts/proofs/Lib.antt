@@ -1,4 +1,5 @@
 pub mod Apart
+pub mod Lasts
 mod Lightest
 mod Bounding
 mod Progress

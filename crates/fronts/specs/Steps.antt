@@ -3,8 +3,7 @@
 --   LastFront rows list m        the last front stands in the list, where m says
 --   LaidFronts rows old out m    all fronts stand in the list from its start on
 --   MadeFronts rows old out r    so they do, or the first that has no room is named
---   Planned rows old out found left r   answer, list and levels buffer are as planning is defined
-use Rattle.std.specs.Prelude.{◌≡◌, ℕ, ◌+◌, ◌≤◌, List, [], reverse, length, take, drop, Some, None, Ok, Err, Option, Result}
+use Rattle.std.specs.Prelude.{◌≡◌, ◌+◌, ◌≤◌, List, [], reverse, length, take, drop, Some, None, Ok, Err, Option, Result}
 use Rattle.board.specs.declared.faults.Fault.{Fault}
 use Rattle.board.specs.declared.offers.Offer.{Offer}
 use Rattle.cost.specs.Kinds.{Meaning}
@@ -12,8 +11,7 @@ use Rattle.plans.specs.declared.states.State.{State}
 use Rattle.plans.specs.Choices.{Row}
 use Rattle.plans.specs.Fronts.{front}
 use Rattle.plans.specs.Places.{places, sizes}
-use Rattle.plans.specs.declared.figures.Figures.{Figures}
-use Rattle.plans.specs.Plans.{laid, list_full, planned, list_after, levels_after}
+use Rattle.plans.specs.Plans.{laid, list_full}
 use Rattle.fronts.specs.declared.merge.PricedOffer.{PricedOffer}
 use Rattle.fronts.specs.declared.plan.Made.{Made}
 use Rattle.fronts.specs.Back.{first_position}
@@ -25,10 +23,9 @@ price_of k (Some o) = Some (record { load = o.measure.load; entry = k.worth o.me
 
 -- the last front stands in the list
 pub record LastFront {C : Type 0} (k : Meaning C) (rows : List (Row C)) (list : List (State C)) (m : Made) : Type 0 where
-  pub count : ℕ
-  pub ends : m.start + count ≤ length list
-  pub pairs : before k m.base (take count (drop m.start list)) ≡ front k (reverse rows) []
-  pub position : m.base ≡ first_position k (reverse rows) []
+  pub ends : m.last.start + m.last.count ≤ length list
+  pub pairs : before k m.last.base (take m.last.count (drop m.last.start list)) ≡ front k (reverse rows) []
+  pub position : m.last.base ≡ first_position k (reverse rows) []
 
 -- all fronts stand
 pub record LaidFronts {C : Type 0} (k : Meaning C) (rows : List (Row C)) (old out : List (State C)) (m : Made) : Type 0 where
@@ -41,9 +38,3 @@ pub record LaidFronts {C : Type 0} (k : Meaning C) (rows : List (Row C)) (old ou
 abbrev pub MadeFronts : {C : Type 0} → Meaning C → List (Row C) → List (State C) → List (State C) → Result Made Fault → Type 0
 MadeFronts k rows old out (Ok m) = LaidFronts k rows old out m
 MadeFronts k rows old out (Err fault) = list_full k (length old) [] rows ≡ Some fault
-
--- answer, list and levels buffer after planning
-pub record Planned {C : Type 0} (k : Meaning C) (rows : List (Row C)) (old out : List (State C)) (found left : List ℕ) (r : Result (Figures C) Fault) : Type 0 where
-  pub answer : r ≡ planned k (length old) (length found) rows
-  pub list : out ≡ list_after k rows r old out
-  pub levels : left ≡ levels_after k rows r found

@@ -1,7 +1,8 @@
 // A value for each of the eight levels that a processor may have.
 //
-// An array would do, but one of values of a kind of cost cannot be proved to fit into memory for
-// every kind.
+// An array would do, but one of values of a kind of cost that is lent is asked to fit into memory, which
+// cannot be shown for every kind, and one that is handed on by copies is not covered. So `first_heads`
+// goes by the numbers of the levels.
 ghost use Rattle.std.specs.Prelude.{◌≡◌, ◌<◌, slice_index_or, slice_set};
 ghost use Rattle.fronts.specs.ByLevel.{by_level, eight};
 

@@ -3,10 +3,6 @@
 // Each offered level makes a candidate of every pair of the front, from the cheapest pair on. The head of a level is its
 // next candidate, and its cursor the index of the pair that the head extends. In each turn the cheapest head is taken,
 // and its level goes on to the next pair. So each candidate is made once and taken once, the cheapest first.
-//
-// A front is told by three numbers: how many states it has in the part, where they start in the list, and `base`, the
-// position of its first pair, counted from 1 at the start of the list. The pair of no rows has the position 0 and no
-// place in the list.
 ghost use Rattle.std.specs.Prelude.{◌≡◌, ℕ, ◌+◌, ◌^◌, ◌<◌, ◌≤◌, List, reverse, length, take, drop, Some, None, nat_le, nat_lt, slice_index, slice_index_or};
 ghost use Rattle.std.specs.List.{slice_get};
 ghost use Rattle.cost.specs.Kinds.{unless_declined};
@@ -29,6 +25,15 @@ pub(crate) struct PricedOffer<K> {
     pub(crate) entry: K,
 }
 
+// A front in the list: where its states start there, how many they are, and `base`, the position of its first pair, counted
+// from 1 at the start of the list. The pair of no rows has the position 0 and no place in the list.
+#[derive(Clone, Copy)]
+pub(crate) struct Front {
+    pub(crate) start: usize,
+    pub(crate) count: usize,
+    pub(crate) base: usize,
+}
+
 // The part has no room for the next front.
 #[derive(Clone, Copy)]
 pub(crate) struct Full;
@@ -43,26 +48,25 @@ enum Comparison {
 }
 
 // Whether the front before has a pair at the index. The pair of no rows is a front by itself.
-fn has_pair(count: usize, base: usize, index: usize) -> bool
-    ensures { result ≡ nat_lt index (size base count) }
+fn has_pair(front: Front, index: usize) -> bool
+    ensures { result ≡ nat_lt index (size front.base front.count) }
 {
-    if base == 0 { index < 1 } else { index < count }
+    if front.base == 0 {
+        index < 1
+    } else {
+        index < front.count
+    }
 }
 
-// Load in µs and cost of the pair at the index of the front before, which is part[0..count] or the pair of no rows.
-fn pair_before<K: Kind>(
-    part: &[State<K>],
-    count: usize,
-    base: usize,
-    index: usize,
-) -> Option<(u64, K)>
-    requires within { count ≤ length part.now }
-    ensures { result ≡ sum_of (slice_get (before K.Kind.meaning base (take count part.now)) index) }
+// Load in µs and cost of the pair at the index of the front before, which is at the start of the part.
+fn pair_before<K: Kind>(part: &[State<K>], front: Front, index: usize) -> Option<(u64, K)>
+    requires within { front.count ≤ length part.now }
+    ensures { result ≡ sum_of (slice_get (before K.Kind.meaning front.base (take front.count part.now)) index) }
 {
-    if !has_pair(count, base, index) {
+    if !has_pair(front, index) {
         return None;
     }
-    if base == 0 {
+    if front.base == 0 {
         return Some((0, K::zero()));
     }
     let state = part[index];
@@ -74,10 +78,8 @@ fn extend<K: Kind>(sum: (u64, K), offer: &PricedOffer<K>) -> Option<(u64, K)>
     requires fits { sum.0 + offer.now.load < 2 ^ 64 }
     ensures { result ≡ unless_declined (K.Kind.meaning.adds sum.1 offer.now.entry) (sum.0 + offer.now.load, K.Kind.meaning.plus sum.1 offer.now.entry) }
 {
-    match sum.1.add(offer.entry) {
-        None => None,
-        Some(cost) => Some((sum.0 + offer.load, cost)),
-    }
+    let cost = sum.1.add(offer.entry)?;
+    Some((sum.0 + offer.load, cost))
 }
 
 // The candidate of a level with this load and cost, which extends the pair at the index of the front before.
@@ -97,39 +99,34 @@ fn candidate<K: Kind>(sum: (u64, K), level: usize, base: usize, index: usize) ->
 // Load in µs and cost that a level makes of the pair at the index of the front before, if it is offered and the pair is there.
 fn head<K: Kind>(
     part: &[State<K>],
-    count: usize,
-    base: usize,
+    front: Front,
     offers: &ByLevel<Option<PricedOffer<K>>>,
     level: usize,
     index: usize,
 ) -> Option<(u64, K)>
-    requires within { count ≤ length part.now }
-    requires fits { Fitting K.Kind.meaning (before K.Kind.meaning base (take count part.now)) (by_level offers.now) }
+    requires within { front.count ≤ length part.now }
+    requires fits { Fitting K.Kind.meaning (before K.Kind.meaning front.base (take front.count part.now)) (by_level offers.now) }
     requires low { level < 8 }
-    ensures { result ≡ sum_at K.Kind.meaning (before K.Kind.meaning base (take count part.now)) (offer_at (by_level offers.now)) level index }
+    ensures { result ≡ sum_at K.Kind.meaning (before K.Kind.meaning front.base (take front.count part.now)) (offer_at (by_level offers.now)) level index }
 {
-    let option = offers.get(level);
-    let pair = pair_before(part, count, base, index);
-    match (option, pair) {
-        (Some(offer), Some(sum)) => extend(sum, &offer),
-        _ => None,
-    }
+    let offer = offers.get(level)?;
+    let sum = pair_before(part, front, index)?;
+    extend(sum, &offer)
 }
 
 // What each level makes of the first pair of the front before.
 fn first_heads<K: Kind>(
     part: &[State<K>],
-    count: usize,
-    base: usize,
+    front: Front,
     offers: &ByLevel<Option<PricedOffer<K>>>,
 ) -> ByLevel<Option<(u64, K)>>
-    requires within { count ≤ length part.now }
-    requires fits { Fitting K.Kind.meaning (before K.Kind.meaning base (take count part.now)) (by_level offers.now) }
-    ensures { (level : ℕ) → level < 8 → slice_index_or (by_level result) level None ≡ sum_at K.Kind.meaning (before K.Kind.meaning base (take count part.now)) (offer_at (by_level offers.now)) level 0 }
+    requires within { front.count ≤ length part.now }
+    requires fits { Fitting K.Kind.meaning (before K.Kind.meaning front.base (take front.count part.now)) (by_level offers.now) }
+    ensures { (level : ℕ) → level < 8 → slice_index_or (by_level result) level None ≡ sum_at K.Kind.meaning (before K.Kind.meaning front.base (take front.count part.now)) (offer_at (by_level offers.now)) level 0 }
 {
     let mut heads = ByLevel::all(None);
     for level in 0..8 {
-        heads.put(level, head(part, count, base, offers, level, 0));
+        heads.put(level, head(part, front, offers, level, 0));
     }
     heads
 }
@@ -139,14 +136,8 @@ fn cheaper<K: Kind>(found: Option<State<K>>, offered: State<K>) -> Option<State<
     ensures { result ≡ first_cheaper K.Kind.meaning found (Some offered) }
 {
     match found {
-        None => Some(offered),
-        Some(state) => {
-            if state.cost.no_dearer(&offered.cost) {
-                Some(state)
-            } else {
-                Some(offered)
-            }
-        }
+        Some(state) if state.cost.no_dearer(&offered.cost) => Some(state),
+        _ => Some(offered),
     }
 }
 
@@ -160,10 +151,9 @@ fn cheapest<K: Kind>(
     ensures { result ≡ cheapest_head K.Kind.meaning (heads_of base (by_level heads.now) cursors.now) 8 }
 {
     let mut found: Option<State<K>> = None;
-    for level in 0..8 {
-        let head = heads.get(level);
-        if let Some(sum) = head {
-            let offered = candidate(sum, level, base, cursors[level]);
+    for (level, cursor) in cursors.iter().enumerate() {
+        if let Some(sum) = heads.get(level) {
+            let offered = candidate(sum, level, base, *cursor);
             found = cheaper(found, offered);
         }
     }
@@ -230,43 +220,39 @@ fn keep_candidate<K: Kind>(
 // Lays the next front right behind the front before; the answer is its size.
 fn merge<K: Kind>(
     part: &mut [State<K>],
-    count: usize,
-    base: usize,
+    front: Front,
     offers: &ByLevel<Option<PricedOffer<K>>>,
     bound: u64,
 ) -> Result<usize, Full>
-    requires within { count ≤ length part.old }
-    requires positions { base + count ≤ 2 ^ 64 }
-    requires fits { Fitting K.Kind.meaning (before K.Kind.meaning base (take count part.old)) (by_level offers.now) }
-    ensures { (row : Row K) (done later : List (Row K)) → NextRow K.Kind.meaning (before K.Kind.meaning base (take count part.old)) (by_level offers.now) bound row done later → Outcome count (next_places K.Kind.meaning base row done later) part.old part.new result }
+    requires within { front.count ≤ length part.old }
+    requires positions { front.base + front.count ≤ 2 ^ 64 }
+    requires fits { Fitting K.Kind.meaning (before K.Kind.meaning front.base (take front.count part.old)) (by_level offers.now) }
+    ensures { (row : Row K) (done later : List (Row K)) → NextRow K.Kind.meaning (before K.Kind.meaning front.base (take front.count part.old)) (by_level offers.now) bound row done later → Outcome front.count (next_places K.Kind.meaning front.base row done later) part.old part.new result }
 {
-    let mut heads = first_heads(part, count, base, offers);
+    let mut heads = first_heads(part, front, offers);
     let mut cursors = [0usize; 8];
-    let mut end = count;
-    while let Some(next) = cheapest(&heads, &cursors, base) {
+    let mut end = front.count;
+    while let Some(next) = cheapest(&heads, &cursors, front.base) {
         let level = next.level as usize;
         let index = cursors[level] + 1;
         cursors[level] = index;
-        heads.put(level, head(part, count, base, offers, level, index));
-        end = keep_candidate(part, count, end, next, bound)?;
+        heads.put(level, head(part, front, offers, level, index));
+        end = keep_candidate(part, front.count, end, next, bound)?;
     }
-    Ok(end - count)
+    Ok(end - front.count)
 }
 
-// The step on the whole list: the front before is list[start..start + count], with base start + 1, or the pair of no
-// rows, with start, count and base 0. The front and the room behind it are passed on as one part.
+// The step on the whole list. The front before and the room behind it are passed on as one part.
 pub(crate) fn advance<K: Kind>(
     list: &mut [State<K>],
-    start: usize,
-    count: usize,
-    base: usize,
+    front: Front,
     offers: &ByLevel<Option<PricedOffer<K>>>,
     bound: u64,
 ) -> Result<usize, Full>
-    requires within { start + count ≤ length list.old }
-    requires positions { base ≤ start + 1 }
-    requires row { SomeNextRow K.Kind.meaning (before K.Kind.meaning base (take count (drop start list.old))) (by_level offers.now) bound }
-    ensures { (row : Row K) (done later : List (Row K)) → NextRow K.Kind.meaning (before K.Kind.meaning base (take count (drop start list.old))) (by_level offers.now) bound row done later → Outcome (start + count) (next_places K.Kind.meaning base row done later) list.old list.new result }
+    requires within { front.start + front.count ≤ length list.old }
+    requires positions { front.base ≤ front.start + 1 }
+    requires row { SomeNextRow K.Kind.meaning (before K.Kind.meaning front.base (take front.count (drop front.start list.old))) (by_level offers.now) bound }
+    ensures { (row : Row K) (done later : List (Row K)) → NextRow K.Kind.meaning (before K.Kind.meaning front.base (take front.count (drop front.start list.old))) (by_level offers.now) bound row done later → Outcome (front.start + front.count) (next_places K.Kind.meaning front.base row done later) list.old list.new result }
 {
-    merge(&mut list[start..], count, base, offers, bound)
+    merge(&mut list[front.start..], front, offers, bound)
 }

@@ -1,14 +1,14 @@
 -- Reading goes on in the text: each line that is read has a byte at least, so that there are never more lines than bytes, and
 -- a call leaves fewer bytes than it found.
-use Rattle.std.proofs.Common.{ℕ, zero, suc, ◌+◌, ◌<◌, ◌≤◌, Bool, true, false, cond, eqb, List, [], ◌∷◌, length, Some, None, Ok, Err, codes, Option, arith}
+use Rattle.std.proofs.Common.{◌≡◌, sym, subst, ℕ, zero, suc, ◌+◌, ◌<◌, ◌≤◌, Bool, true, false, cond, eqb, List, [], ◌∷◌, length, Some, None, Ok, Err, codes, Option, arith}
 use Rattle.std.specs.Option.{option_map}
 use Rattle.plantext.specs.Numbers.{number_of}
 use Rattle.jobtext.specs.declared.headers.Rule.{Rule}
 use Rattle.jobtext.specs.declared.calls.Word.{Word}
 use Rattle.jobtext.specs.declared.calls.Word.TheVariants.{Admit, Retire, Capacity, Trial, Serve, Clock, Plan}
 use Rattle.jobtext.specs.Lines.{Place, Reading, got, and_then, Cut, longer, cut, behind, ended, keyed, formed, due, repeated}
-use Rattle.jobtext.specs.Headers.{number_line, level, header, kind_of, rule_of, count_of}
-use Rattle.jobtext.specs.Calls.{call_lines, job_call, word_of, due_key}
+use Rattle.jobtext.specs.Headers.{Header, number_line, level, header, kind_of, rule_of, count_of}
+use Rattle.jobtext.specs.Calls.{CallOfJob, call_lines, job_call, word_of, due_key}
 
 -- the number of the next line, and the bytes that are left
 abbrev pub extent : Place → ℕ
@@ -17,6 +17,10 @@ extent q = q.line + length q.rest
 abbrev pub Advances : {X : Type 0} → Place → Reading X → Type 0
 Advances q (Ok g) = (extent g.place ≤ extent q) × (length g.place.rest ≤ length q.rest)
 Advances q (Err e) = Unit {0}
+
+-- where it was read to
+reached : {X : Type 0} (q s : Place) (x : X) (r : Reading X) → Ok (got x s) ≡ r → Advances q r → extent s ≤ extent q
+reached q s x r e h = (subst (Advances q) (sym e) h).0
 
 -- a line was read at least
 abbrev pub Shrinks : {X : Type 0} → Place → Reading X → Type 0
@@ -100,7 +104,7 @@ repeated_advances read h (suc n) q =
 level_advances : (q : Place) → Advances q (level q)
 level_advances q = numbered (codes "mhz=") _ q (λ mhz r. numbered (codes "mw=") _ r (λ mw s. (omega arith, omega arith)))
 
-pub header_advances : (q : Place) → Advances q (header q)
+header_advances : (q : Place) → Advances q (header q)
 header_advances q =
     on q (due (codes "kind=") kind_of q) _ (due_advances (codes "kind=") kind_of q) (λ kind q.
     on q (due (codes "rule=") rule_of q) _ (due_advances (codes "rule=") rule_of q) (λ rule q.
@@ -108,6 +112,9 @@ header_advances q =
     on q (repeated level n q) _ (repeated_advances level level_advances n q) (λ levels q.
     on q (due (codes "devices=") (count_of 0 8) q) _ (due_advances (codes "devices=") (count_of 0 8) q) (λ d q.
     on q (repeated (number_line (codes "standby=")) d q) _ (repeated_advances (number_line (codes "standby=")) (number_advances (codes "standby=")) d q) (λ standby q. (omega arith, omega arith)))))))
+
+pub header_reached : (q s : Place) (h : Header) → Ok (got h s) ≡ header q → extent s ≤ extent q
+header_reached q s h e = reached q s h (header q) e (header_advances q)
 
 lines_advance : (rule : Rule) (devices : ℕ) (word : Word) (q : Place) → Advances q (call_lines rule devices word q)
 lines_advance rule devices Admit q =
@@ -123,8 +130,11 @@ lines_advance rule devices Serve q = numbered (codes "port=") _ q (λ port q. nu
 lines_advance rule devices Clock q = numbered (codes "time=") _ q (λ time q. (omega arith, omega arith))
 lines_advance rule devices Plan q = (omega arith, omega arith)
 
-pub call_advances : (rule : Rule) (devices : ℕ) (q : Place) → Advances q (job_call rule devices q)
+call_advances : (rule : Rule) (devices : ℕ) (q : Place) → Advances q (job_call rule devices q)
 call_advances rule devices q = on q (due (codes "call=") (word_of rule) q) _ (due_advances (codes "call=") (word_of rule) q) (λ word q. lines_advance rule devices word q)
+
+pub call_reached : (rule : Rule) (devices : ℕ) (q s : Place) (call : CallOfJob) → Ok (got call s) ≡ job_call rule devices q → extent s ≤ extent q
+call_reached rule devices q s call e = reached q s call (job_call rule devices q) e (call_advances rule devices q)
 
 pub call_shrinks : (rule : Rule) (devices : ℕ) (q : Place) → Shrinks q (job_call rule devices q)
 call_shrinks rule devices q = first_shrinks q (due (codes "call=") (word_of rule) q) _ (due_shrinks (codes "call=") (word_of rule) q) (λ word q. lines_advance rule devices word q)

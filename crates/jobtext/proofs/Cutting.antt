@@ -1,55 +1,35 @@
--- The first line of bytes, found byte by byte.
-use Rattle.std.proofs.Common.{◌≡◌, ℕ, ◌+◌, ◌<◌, ◌≤◌, true, cond, eqb, List, [], ◌∷◌, ◌++◌, length, get_or, take, drop, Some, None, Option, sym, refl, ap, ◌∙◌, arith, eq-eqb, ne_eqb}
+-- The first line of bytes, by the place of its end; and what stands behind a key.
+use Rattle.std.proofs.Common.{◌≡◌, ℕ, suc, ◌+◌, Bool, true, false, cond, ltb, eqb, not, ◌&&◌, List, [], ◌∷◌, length, take, drop, Some, None, Option, refl, ap, ◌∙◌, sym, arith}
+use native.Mathlib.Numerals.{unary_clauses}
+use Rattle.std.specs.List.{position, position_or_len}
 use Rattle.std.specs.Option.{option_map}
-use Rattle.std.proofs.lemmas.List.{at_drop_more, at_drop_all, take_more, append_assoc, append-nil}
-use Rattle.jobtext.specs.Lines.{Cut, longer, cut, behind}
-use Rattle.std.proofs.lemmas.Bool.{true≢false}
-use Rattle.jobtext.specs.Places.{cut_at, alike}
+use Rattle.std.specs.Cmp.Lexicographic.{pointwise}
+use Rattle.std.proofs.lemmas.Bool.Decides.{nat_tests}
+use Rattle.jobtext.specs.Lines.{longer, cut, behind}
+use Rattle.jobtext.specs.Places.{cut_at}
 
--- a line that has these bytes in front
-abbrev pub ahead : List ℕ → Option Cut → Option Cut
-ahead front o = option_map (λ c. record { line = front ++ c.line; rest = c.rest }) o
+-- the place of an end, if it is in the bytes
+abbrev inside : ℕ → ℕ → Option ℕ
+inside n m = cond (ltb n m) (Some n) None
 
-one_more : (front : List ℕ) (b : ℕ) (o : Option Cut) → ahead front (option_map (longer b) o) ≡ ahead (front ++ (b ∷ [])) o
-one_more front b None = refl
-one_more front b (Some c) = ap (λ l. Some (record { line = l; rest = c.rest })) (sym (append_assoc front (b ∷ []) c.line))
+one_further : (n m : ℕ) → inside (suc n) (suc m) ≡ option_map suc (inside n m)
+one_further n m = grind (arith, nat_tests)
 
-module _ (bs : List ℕ) (i : ℕ) (inside : i < length bs) where
-  turn : cut (drop i bs) ≡ cond (eqb (get_or bs i 0) 10) (Some (record { line = []; rest = drop (i + 1) bs })) (option_map (longer (get_or bs i 0)) (cut (drop (i + 1) bs)))
-  turn = at_drop_more cut bs i 0 inside
+longer_at : (b : ℕ) (bs : List ℕ) (o : Option ℕ) → option_map (longer b) (cut_at bs o) ≡ cut_at (b ∷ bs) (option_map suc o)
+longer_at b bs None = refl
+longer_at b bs (Some n) = simp unary_clauses refl
 
-  pub passed : (get_or bs i 0 ≡ 10 → ⊥) → ahead (take i bs) (cut (drop i bs)) ≡ cut bs → ahead (take (i + 1) bs) (cut (drop (i + 1) bs)) ≡ cut bs
-  passed other inv =
-      ap (λ l. ahead l (cut (drop (i + 1) bs))) (take_more bs i 0 inside)
-      ∙ sym (one_more (take i bs) (get_or bs i 0) (cut (drop (i + 1) bs)))
-      ∙ sym (ap (ahead (take i bs)) (turn ∙ ap (λ b. cond b (Some (record { line = []; rest = drop (i + 1) bs })) (option_map (longer (get_or bs i 0)) (cut (drop (i + 1) bs)))) (ne_eqb (get_or bs i 0) 10 other)))
-      ∙ inv
+by_first : (b : ℕ) (bs : List ℕ) (n : ℕ) (t : Bool) → cut_at bs (inside n (length bs)) ≡ cut bs →
+    cut_at (b ∷ bs) (inside (cond (not t) (1 + n) 0) (suc (length bs))) ≡ cond t (Some (record { line = []; rest = bs })) (option_map (longer b) (cut bs))
+by_first b bs n true h = ap (cut_at (b ∷ bs)) (let first : inside 0 (suc (length bs)) ≡ Some 0 = grind (arith, nat_tests) in first)
+by_first b bs n false h = ap (λ m. cut_at (b ∷ bs) (inside m (suc (length bs)))) (let next : 1 + n ≡ suc n = omega arith in next) ∙ ap (cut_at (b ∷ bs)) (one_further n (length bs)) ∙ sym (longer_at b bs (inside n (length bs))) ∙ ap (option_map (longer b)) h
 
-  pub found : get_or bs i 0 ≡ 10 → ahead (take i bs) (cut (drop i bs)) ≡ cut bs → cut_at bs (Some i) ≡ cut bs
-  found end inv =
-      ap (λ l. Some (record { line = l; rest = drop (i + 1) bs })) (sym (append-nil (take i bs)))
-      ∙ sym (ap (ahead (take i bs)) (turn ∙ ap (λ b. cond b (Some (record { line = []; rest = drop (i + 1) bs })) (option_map (longer (get_or bs i 0)) (cut (drop (i + 1) bs)))) (eq-eqb (get_or bs i 0) 10 end)))
-      ∙ inv
+pub cut_by_position : (bs : List ℕ) → cut_at bs (position (λ b. eqb b 10) bs) ≡ cut bs
+cut_by_position [] = refl
+cut_by_position (b ∷ bs) = by_first b bs (position_or_len (λ b. eqb b 10) bs) (eqb b 10) (cut_by_position bs)
 
-pub not_found : (bs : List ℕ) (i : ℕ) → length bs ≤ i → ahead (take i bs) (cut (drop i bs)) ≡ cut bs → None ≡ cut bs
-not_found bs i past inv = sym (ap (ahead (take i bs)) (at_drop_all cut bs i past)) ∙ inv
-
--- before the first byte
-unchanged : (o : Option Cut) → ahead [] o ≡ o
-unchanged None = refl
-unchanged (Some c) = refl
-
-pub at_start : (bs : List ℕ) → ahead (take 0 bs) (cut (drop 0 bs)) ≡ cut bs
-at_start bs = unchanged (cut bs)
-
--- a key that has no byte left stands in front of everything
-pub behind_none : (key line : List ℕ) → length key < 1 → Some line ≡ behind key line
-behind_none [] line h = refl
-behind_none (k ∷ ks) line h = absurd (omega arith)
-
--- a key and a line that begin with the same byte
-pub behind_more : (key line : List ℕ) → alike line key ≡ true → behind key line ≡ behind (drop 1 key) (drop 1 line)
-behind_more [] [] e = absurd (true≢false (sym e))
-behind_more [] (b ∷ bs) e = absurd (true≢false (sym e))
-behind_more (k ∷ ks) [] e = absurd (true≢false (sym e))
-behind_more (k ∷ ks) (b ∷ bs) e = ap (λ t. cond t (behind ks bs) None) e
+pub key_behind : (key line : List ℕ) → cond (pointwise eqb (take (length key) line) key) (Some (drop (length key) line)) None ≡ behind key line
+key_behind [] line = refl
+key_behind (k ∷ ks) [] = refl
+key_behind (k ∷ ks) (b ∷ bs) =
+    elim (eqb b k) as (λ t. cond (t && pointwise eqb (take (length ks) bs) ks) (Some (drop (length ks) bs)) None ≡ cond t (behind ks bs) None) [ true ↦ key_behind ks bs | false ↦ refl ]

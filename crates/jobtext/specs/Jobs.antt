@@ -15,8 +15,8 @@ use Rattle.std.specs.Option.{option_map}
 use Rattle.board.specs.declared.faults.Fault.{Fault}
 use Rattle.board.specs.Processors.{ProcessorFigures, processor_made}
 use Rattle.cost.specs.Kinds.{Meaning}
+use Rattle.plans.specs.declared.figures.Figures.{Figures}
 use Rattle.plans.specs.declared.states.State.{State}
-use Rattle.plantext.specs.declared.answers.Outcome.{Outcome}
 use Rattle.plantext.specs.declared.faults.JobFault.{JobFault}
 use Rattle.plantext.specs.declared.faults.JobFault.TheVariants.{LongText, ShortAnswer, Refused}
 use Rattle.plantext.specs.Answers.{answer_text, room_needed, written, written_length}
@@ -67,13 +67,13 @@ abbrev pub opened : List ℕ → Opening
 opened text = cond (nat_lt longest_text (length text)) (opening Energy (faulty LongText)) (opened_by text (header (start text)))
 
 pub record Turn (C : Type 0) : Type 0 where
-  pub outcome : Result (Outcome C) JobFault
+  pub outcome : Result (Option (Figures C)) JobFault
   pub stage : Stage
   pub levels : List ℕ
   -- what the list holds, where it held `found` before; where that is open, it is whatever was `left`
   pub list : List (State C) → List (State C) → List (State C)
 
-abbrev pub on_line : {C : Type 0} → ℕ → Result (Outcome C) Fault → Result (Outcome C) JobFault
+abbrev pub on_line : {C : Type 0} → ℕ → Result (Option (Figures C)) Fault → Result (Option (Figures C)) JobFault
 on_line line (Ok outcome) = Ok outcome
 on_line line (Err fault) = Err (Refused fault line)
 

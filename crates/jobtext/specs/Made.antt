@@ -2,9 +2,9 @@
 --   Made C              what comes of a call: its answer, the book after it, the levels of its plan, and what it makes of the list
 --   Comes m r b levels found list   of the call came just m: the answer r, the book b, the levels, and the list that held `found`
 --   rows_in k b         the rows of the book
---   answered r          an answer without a plan, or with one
+--   done r, given r     the answer of a call that is no plan, which has no figures, and of a plan, which has them
 --   made k room b call  what comes of the call, with a list of `room` places and a levels buffer of 48 bytes
-use Rattle.std.specs.Prelude.{◌≡◌, ℕ, List, replicate, Ok, Err, Result}
+use Rattle.std.specs.Prelude.{◌≡◌, ℕ, List, replicate, Some, None, Ok, Err, Option, Result}
 use Rattle.board.specs.declared.faults.Fault.{Fault}
 use Rattle.cost.specs.Kinds.{Meaning}
 use Rattle.plans.specs.declared.figures.Figures.{Figures}
@@ -13,21 +13,19 @@ use Rattle.plans.specs.Choices.{Row}
 use Rattle.plans.specs.Plans.{planned, list_after, levels_after}
 use Rattle.tally.specs.Books.{answer, after}
 use Rattle.tally.specs.Plans.{at_capacity, periodic_rows_of, sporadic_rows_of, periodic_trial}
-use Rattle.plantext.specs.declared.answers.Outcome.{Outcome}
-use Rattle.plantext.specs.declared.answers.Outcome.TheVariants.{Done, Given}
 use Rattle.jobtext.specs.declared.headers.Rule.{Rule}
 use Rattle.jobtext.specs.declared.headers.Rule.TheVariants.{Periodic, Sporadic}
 use Rattle.jobtext.specs.Calls.{CallOfJob, to_change, to_plan, to_try}
 use Rattle.jobtext.specs.Books.{JobBook, job_book}
 
 pub record Made (C : Type 0) : Type 0 where
-  pub answer : Result (Outcome C) Fault
+  pub answer : Result (Option (Figures C)) Fault
   pub book : JobBook
   pub levels : List ℕ
   -- what the list holds, where it held `found` before; where that is open, it is whatever was `left`
   pub list : List (State C) → List (State C) → List (State C)
 
-pub record Comes {C : Type 0} (m : Made C) (r : Result (Outcome C) Fault) (b : JobBook) (levels : List ℕ) (found list : List (State C)) : Type 0 where
+pub record Comes {C : Type 0} (m : Made C) (r : Result (Option (Figures C)) Fault) (b : JobBook) (levels : List ℕ) (found list : List (State C)) : Type 0 where
   pub answers : r ≡ m.answer
   pub keeps : b ≡ m.book
   pub tells : levels ≡ m.levels
@@ -40,12 +38,12 @@ rows_by k Sporadic b = sporadic_rows_of k b.figures
 abbrev pub rows_in : {C : Type 0} → Meaning C → JobBook → List (Row C)
 rows_in k b = rows_by k b.rule b
 
-abbrev pub done : {C : Type 0} → Result Unit Fault → Result (Outcome C) Fault
-done (Ok x) = Ok Done
+abbrev pub done : {C : Type 0} → Result Unit Fault → Result (Option (Figures C)) Fault
+done (Ok x) = Ok None
 done (Err fault) = Err fault
 
-abbrev pub given : {C : Type 0} → Result (Figures C) Fault → Result (Outcome C) Fault
-given (Ok f) = Ok (Given f)
+abbrev pub given : {C : Type 0} → Result (Figures C) Fault → Result (Option (Figures C)) Fault
+given (Ok f) = Ok (Some f)
 given (Err fault) = Err fault
 
 -- the levels buffer of a job, before a plan

@@ -4,8 +4,8 @@
 --   Takes t ..          of a job call came the turn t; Turns: of the next one, if one is left
 --   opened_view o       what a text was opened as
 use Rattle.std.specs.Prelude.{◌≡◌, ℕ, List, Some, None, Ok, Err, Option, Result}
+use Rattle.plans.specs.declared.figures.Figures.{Figures}
 use Rattle.plans.specs.declared.states.State.{State}
-use Rattle.plantext.specs.declared.answers.Outcome.{Outcome}
 use Rattle.plantext.specs.declared.faults.JobFault.{JobFault}
 use Rattle.jobtext.specs.declared.headers.KindName.TheVariants as kinds
 use Rattle.jobtext.specs.declared.jobs.Going.{Going}
@@ -35,13 +35,13 @@ opened_view (openeds.Peak j) = jobs.opening kinds.Peak (stage_view j.stage)
 opened_view (openeds.Both j) = jobs.opening kinds.Both (stage_view j.stage)
 
 -- of a job call came just this turn
-pub record Takes {C : Type 0} (t : jobs.Turn C) (r : Result (Outcome C) JobFault) (stage : jobs.Stage) (levels : List ℕ) (found list : List (State C)) : Type 0 where
+pub record Takes {C : Type 0} (t : jobs.Turn C) (r : Result (Option (Figures C)) JobFault) (stage : jobs.Stage) (levels : List ℕ) (found list : List (State C)) : Type 0 where
   pub answers : r ≡ t.outcome
   pub goes : stage ≡ t.stage
   pub tells : levels ≡ t.levels
   pub lays : list ≡ t.list found list
 
 -- the same of the next job call, if one is left; else nothing came of it
-abbrev pub Turns : {C : Type 0} → Option (jobs.Turn C) → jobs.Stage → Option (Result (Outcome C) JobFault) → jobs.Stage → List ℕ → List (State C) → List (State C) → Type 0
+abbrev pub Turns : {C : Type 0} → Option (jobs.Turn C) → jobs.Stage → Option (Result (Option (Figures C)) JobFault) → jobs.Stage → List ℕ → List (State C) → List (State C) → Type 0
 Turns None stage₀ r stage levels found list = (r ≡ None) × (stage ≡ stage₀) × (list ≡ found)
-Turns {C} (Some t) stage₀ r stage levels found list = (o : Result (Outcome C) JobFault) × ((r ≡ Some o) × Takes t o stage levels found list)
+Turns {C} (Some t) stage₀ r stage levels found list = (o : Result (Option (Figures C)) JobFault) × ((r ≡ Some o) × Takes t o stage levels found list)

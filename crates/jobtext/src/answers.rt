@@ -1,11 +1,10 @@
 // What a job call answers.
 use plantext::answers::Outcome;
-use plantext::faults::JobFault;
 
-// The outcome of a job call, and how many bytes of text were written of it: none if the answer buffer is
-// too short.
+// The outcome of a job call, and how many bytes of text were written of it: 0 if the answer buffer is too
+// short, so that the first `length` bytes of the buffer are always what was written.
 #[derive(Clone, Copy)]
 pub struct Answered<K> {
-    pub outcome: Result<Outcome<K>, JobFault>,
+    pub outcome: Outcome<K>,
     pub length: usize,
 }

@@ -1,9 +1,9 @@
 // The calls of a job text.
-ghost use Rattle.std.specs.Prelude.{◌≤◌};
+use shortlist::lists::ShortList;
 
 mod reads;
 
-// The first word of a call.
+// The first word of a call. It says which lines follow, and which books take the call.
 #[derive(Clone, Copy)]
 pub enum Word {
     Admit,
@@ -13,15 +13,6 @@ pub enum Word {
     Serve,
     Clock,
     Plan,
-}
-
-// A share for each device, in thousandths. The first places of `all` hold them; those behind hold
-// nothing of meaning.
-#[derive(Clone, Copy)]
-pub struct Shares {
-    pub all: [u64; 8],
-    pub count: usize,
-    ghost few: { count ≤ 8 },
 }
 
 // What a call asks for, in figures as the text has them.
@@ -35,7 +26,8 @@ pub enum JobCall {
         access: u64,
         // the period or the deadline, in µs
         time: u64,
-        shares: Shares,
+        // a share for each device, in thousandths
+        shares: ShortList<u64, 8>,
     },
     Retire {
         port: u64,

@@ -1,7 +1,6 @@
 // The header of a job text.
-ghost use Rattle.std.specs.Prelude.{◌≤◌};
-
 use board::levels::Level;
+use shortlist::lists::ShortList;
 
 mod reads;
 
@@ -20,17 +19,12 @@ pub enum Rule {
     Sporadic,
 }
 
-// What a header names. The first places of `levels` and `standby` hold its levels and devices; those
-// behind hold nothing of meaning.
+// What a header names.
 #[derive(Clone, Copy)]
 pub struct Header {
     pub kind: KindName,
     pub rule: Rule,
-    pub levels: [Level; 8],
-    pub level_count: usize,
-    // in mW
-    pub standby: [u64; 8],
-    pub device_count: usize,
-    ghost few_levels: { level_count ≤ 8 },
-    ghost few_devices: { device_count ≤ 8 },
+    pub levels: ShortList<Level, 8>,
+    // of each device, in mW
+    pub standby: ShortList<u64, 8>,
 }

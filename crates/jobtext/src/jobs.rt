@@ -29,7 +29,8 @@ pub(crate) struct Going {
     ghost few_devices: { devices ≤ 8 },
 }
 
-// How far a job has come.
+// How far a job has come. An enum of its own: in an option of a result the faulty header, which is still to
+// be answered, would be an error of something that was tried.
 #[derive(Clone, Copy)]
 pub(crate) enum Stage {
     // nothing more is read

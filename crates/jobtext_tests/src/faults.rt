@@ -17,7 +17,7 @@ macro_rules! sporadic_job {
 }
 
 fn refused(number: u8, line: u64, port: u64) -> Came {
-    Came::Refused(number, line, port)
+    Some(Err((number, line, port)))
 }
 
 #[test]
@@ -105,7 +105,7 @@ fn calls(rt: HostRuntime) -> Result<(), Fail> {
         (job!("call=clock\ntime=1\n"), refused(15, 7, 0)),
         (job!("call=capacity\n"), refused(13, 8, 0)),
         (job!("call=capacity\ncapacity=1001\n"), refused(29, 7, 0)),
-        (job!("call=capacity\ncapacity=1000\n"), Came::Accepted),
+        (job!("call=capacity\ncapacity=1000\n"), Some(Ok(()))),
         (sporadic_job!("call=trial\ncapacity=1\n"), refused(15, 8, 0)),
         (
             sporadic_job!("call=admit\nport=1\ncycles=1\naccess=0\ndeadline=9\n"),
@@ -139,8 +139,8 @@ fn came(text: &[u8]) -> [Came; 3] {
 
 #[test]
 fn reading_ends_or_goes_on(rt: HostRuntime) -> Result<(), Fail> {
-    let none = Came::NoneLeft;
-    let done = Came::Accepted;
+    let none: Came = None;
+    let done: Came = Some(Ok(()));
     // after a fault of the text nothing more is read, after one of the book the next call is
     let cases: [(&[u8], [Came; 3]); 5] = [
         (
@@ -172,7 +172,7 @@ fn lengths_of_texts(rt: HostRuntime) {
 
 #[test]
 fn answer_buffers(rt: HostRuntime) -> Result<(), Fail> {
-    let none = Came::NoneLeft;
+    let none: Came = None;
     let short = refused(12, 0, 0);
     let mut buffer = [7; 256];
     // 12 comes before the faults of lines, and behind 11; the buffer stays as found, and reading ends

@@ -1,6 +1,6 @@
 // Taking the calls of a text, whatever its kind.
 use cost::energies::Energy;
-use cost::kinds::{Kind, StrictKind};
+use cost::kinds::Kind;
 use cost::pairs::Pair;
 use cost::peaks::Peak;
 use jobtext::jobs::{Job, Opened, open};
@@ -9,21 +9,7 @@ use plantext::kinds::JobKind;
 use std::alloc::{AllocError, Global};
 
 // What a call came to: none was left, it was accepted, or number, line and port of its refusal.
-#[derive(Clone, Copy, PartialEq, Eq, Debug)]
-pub(crate) enum Came {
-    NoneLeft,
-    Accepted,
-    Refused(u8, u64, u64),
-}
-
-fn blank<K: Kind>() -> State<K> {
-    State {
-        load: 0,
-        cost: K::zero(),
-        level: 0,
-        position: 0,
-    }
-}
+pub(crate) type Came = Option<Result<(), (u8, u64, u64)>>;
 
 fn take_next<K: JobKind>(
     job: &mut Job<K>,
@@ -31,13 +17,12 @@ fn take_next<K: JobKind>(
     list: &mut [State<K>],
     answer: &mut [u8],
 ) -> Came {
-    match job.next(text, list, answer) {
-        None => Came::NoneLeft,
-        Some(answered) => match answered.outcome {
-            Ok(_) => Came::Accepted,
-            Err(fault) => Came::Refused(fault.number(), fault.line(), fault.port()),
-        },
-    }
+    let outcome = job.next(text, list, answer)?.outcome;
+    Some(
+        outcome
+            .map(|_| ())
+            .map_err(|fault| (fault.number(), fault.line(), fault.port())),
+    )
 }
 
 fn take_each<K: JobKind>(
@@ -47,26 +32,32 @@ fn take_each<K: JobKind>(
     rooms: [usize; 3],
     buffer: &mut [u8],
 ) -> [Came; 3] {
-    let mut all = [Came::NoneLeft; 3];
-    for i in 0..3 {
-        let room = rooms[i].min(buffer.len());
-        all[i] = take_next(&mut job, text, list, &mut buffer[0..room]);
-    }
-    all
+    rooms.map(|room| {
+        let room = room.min(buffer.len());
+        take_next(&mut job, text, list, &mut buffer[..room])
+    })
 }
 
 // What three calls come to, each in so many bytes of the buffer.
 pub(crate) fn three_came(text: &[u8], rooms: [usize; 3], buffer: &mut [u8]) -> [Came; 3] {
     match open(text) {
         Opened::Energy(job) => {
-            take_each(job, text, &mut [blank::<Energy>(); 12], rooms, buffer)
+            take_each(
+                job,
+                text,
+                &mut [State::<Energy>::blank(); 12],
+                rooms,
+                buffer,
+            )
         },
-        Opened::Peak(job) => { take_each(job, text, &mut [blank::<Peak>(); 12], rooms, buffer) },
+        Opened::Peak(job) => {
+            take_each(job, text, &mut [State::<Peak>::blank(); 12], rooms, buffer)
+        },
         Opened::Both(job) => {
             take_each(
                 job,
                 text,
-                &mut [blank::<Pair<Energy, Peak>>(); 12],
+                &mut [State::<Pair<Energy, Peak>>::blank(); 12],
                 rooms,
                 buffer,
             )
@@ -104,6 +95,7 @@ fn answers_of<K: JobKind>(
     list: &mut [State<K>],
 ) -> Result<Vec<u8>, AllocError> {
     let mut all = Vec::new(heap);
+    // no text has more calls than bytes: the count is what lets the loop end
     for _ in 0..=text.len() {
         if !append_next(&mut job, text, list, &mut all)? {
             break;
@@ -115,8 +107,13 @@ fn answers_of<K: JobKind>(
 // All answers of a text, one behind the other.
 pub(crate) fn all_answers(heap: Global, text: &[u8]) -> Result<Vec<u8>, AllocError> {
     match open(text) {
-        Opened::Energy(job) => answers_of(heap, job, text, &mut [blank::<Energy>(); 12]),
-        Opened::Peak(job) => answers_of(heap, job, text, &mut [blank::<Peak>(); 12]),
-        Opened::Both(job) => answers_of(heap, job, text, &mut [blank::<Pair<Energy, Peak>>(); 12]),
+        Opened::Energy(job) => answers_of(heap, job, text, &mut [State::<Energy>::blank(); 12]),
+        Opened::Peak(job) => answers_of(heap, job, text, &mut [State::<Peak>::blank(); 12]),
+        Opened::Both(job) => answers_of(
+            heap,
+            job,
+            text,
+            &mut [State::<Pair<Energy, Peak>>::blank(); 12],
+        ),
     }
 }

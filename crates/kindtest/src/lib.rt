@@ -17,17 +17,13 @@ pub struct Hot {
 impl Kind for Hot {
     const LETTER: u8 = b'h';
 
-    ghost meaning = { hot };
+    ghost LETTER = { 104 };
 
-    ghost sign = { 104 };
+    ghost meaning = { hot };
 
     ghost numbers = { λ h. h.tasks ∷ [] };
 
     ghost laws = { hot_laws };
-
-    fn letter_code() -> u8 {
-        Self::LETTER
-    }
 
     fn number(&self, i: usize) -> Option<u64> {
         if i == 0 {

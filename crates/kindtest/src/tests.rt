@@ -2,7 +2,7 @@
 use super::Hot;
 use board::measures::Measure;
 use cost::energies::Energy;
-use cost::kinds::{Kind, StrictKind};
+use cost::kinds::Kind;
 use cost::pairs::Pair;
 use cost::peaks::Peak;
 use cost::sums::entry_limit;
@@ -24,12 +24,10 @@ fn sum<K: Kind>(a: &Measure, b: &Measure) -> Option<K> {
     K::zero().add(first)?.add(second)
 }
 
-// The first two numbers of the sum of two entries; none past the last, or if a call declines.
-fn numbers<K: Kind>(a: &Measure, b: &Measure) -> (Option<u64>, Option<u64>) {
-    match sum::<K>(a, b) {
-        Some(cost) => (cost.number(0), cost.number(1)),
-        None => (None, None),
-    }
+// The first two numbers of the sum of two entries, with none past the last; none if a call declines.
+fn numbers<K: Kind>(a: &Measure, b: &Measure) -> Option<(Option<u64>, Option<u64>)> {
+    let cost = sum::<K>(a, b)?;
+    Some((cost.number(0), cost.number(1)))
 }
 
 // Whether the first measure is no dearer than the second, and the other way round.
@@ -43,16 +41,19 @@ fn compared<K: Kind>(a: &Measure, b: &Measure) -> Option<(bool, bool)> {
 fn sums_have_their_numbers(rt: HostRuntime) {
     let cool = measure(4_000_000, 50);
     let warm = measure(12_000_000, 70);
-    assert_eq!(rt; numbers::<Energy>(&cool, &warm), (Some(120), None));
-    assert_eq!(rt; numbers::<Peak>(&cool, &warm), (Some(12_000_000), None));
-    assert_eq!(rt; numbers::<Hot>(&cool, &warm), (Some(1), None));
+    assert_eq!(rt; numbers::<Energy>(&cool, &warm), Some((Some(120), None)));
+    assert_eq!(rt;
+        numbers::<Peak>(&cool, &warm),
+        Some((Some(12_000_000), None))
+    );
+    assert_eq!(rt; numbers::<Hot>(&cool, &warm), Some((Some(1), None)));
     assert_eq!(rt;
         numbers::<Pair<Energy, Peak>>(&cool, &warm),
-        (Some(120), Some(12_000_000))
+        Some((Some(120), Some(12_000_000)))
     );
     assert_eq!(rt;
         numbers::<Pair<Energy, Hot>>(&warm, &warm),
-        (Some(140), Some(2))
+        Some((Some(140), Some(2)))
     );
 }
 
@@ -77,18 +78,19 @@ fn pairs_compare_the_first_before_the_second(rt: HostRuntime) {
 fn what_does_not_fit_is_declined(rt: HostRuntime) {
     let vast = measure(4_000_000, u64::MAX);
     let next = measure(200_000_000, 1);
-    assert_eq!(rt; numbers::<Energy>(&vast, &next), (None, None));
-    assert_eq!(rt; numbers::<Peak>(&vast, &next), (Some(200_000_000), None));
+    assert_eq!(rt; numbers::<Energy>(&vast, &next), None);
+    assert_eq!(rt;
+        numbers::<Peak>(&vast, &next),
+        Some((Some(200_000_000), None))
+    );
     assert_eq!(rt; compared::<Pair<Energy, Hot>>(&vast, &next), None);
 }
 
 #[test]
 fn each_kind_has_its_letter(rt: HostRuntime) {
-    assert_eq!(rt; <Energy as Kind>::letter_code(), <Energy as Kind>::LETTER);
-    assert_eq!(rt; <Energy as cost::kinds::StrictKind>::letter_code(), b'e');
-    assert_eq!(rt; <Peak as Kind>::letter_code(), b'p');
-    assert_eq!(rt; <Hot as Kind>::letter_code(), b'h');
-    assert_eq!(rt; <Pair<Energy, Hot> as Kind>::letter_code(), b'b');
+    assert_eq!(rt; <Energy as Kind>::LETTER, b'e');
+    assert_eq!(rt; <Peak as Kind>::LETTER, b'p');
+    assert_eq!(rt; <Hot as Kind>::LETTER, b'h');
     assert_eq!(rt; <Pair<Energy, Hot> as Kind>::LETTER, b'b');
     assert_eq!(rt; entry_limit::<Hot>(), 48);
 }

@@ -55,7 +55,8 @@ pub enum SporadicCall<'a> {
     },
 }
 
-// What a periodic book is asked for at the end: a plan, or a trial at this capacity in thousandths.
+// What a periodic book is asked for at the end: a plan, or a trial at this capacity in thousandths. In an
+// `Option` of a capacity `None` would not say that a plan is asked for.
 #[derive(Clone, Copy)]
 pub enum Question {
     Plan,

@@ -1,6 +1,8 @@
 // Whole lives of books: calls as values, books that follow them, and what they answer at the end.
 #![tactic(auto)]
 
+pub mod books;
 pub mod calls;
-pub mod periodic;
-pub mod sporadic;
+pub mod living;
+mod periodic;
+mod sporadic;

@@ -1,12 +1,13 @@
 -- The rows of standing tasks keep what is asked of rows.
 use Rattle.std.proofs.Common.{◌≡◌, ℕ, zero, suc, ◌+◌, ◌<◌, ◌≤◌, List, [], ◌∷◌, map, length, Some, None, Option, sym, refl, ap, ◌∙◌, subst, inl, inr, ⊎_elim, arith}
-use Rattle.std.specs.List.{range_with_len, flat_map}
+use Rattle.std.specs.List.{range_with_len, flat_map, slice_get}
+use Rattle.std.proofs.lemmas.Option.{slice_get_within}
 use Rattle.std.proofs.lemmas.List.{length-map}
 use Rattle.std.proofs.lemmas.Bool.{cases_lt}
 use Rattle.board.specs.declared.levels.Level.{Level}
 use Rattle.board.specs.declared.measures.Measure.{Measure}
 use Rattle.board.specs.Processors.{ProcessorFigures}
-use Rattle.board.specs.Measures.{level_at, offer_at, offer, Offered}
+use Rattle.board.specs.Measures.{offer_at, offer, Offered}
 use Rattle.board.specs.Tasks.{FiguresOfTask}
 use Rattle.cost.specs.Kinds.{Meaning, most_entries, Sum, entry}
 use Rattle.plans.specs.Choices.{In, Offer, Row}
@@ -29,17 +30,12 @@ counting_in zero a i low high = absurd (omega arith)
 counting_in (suc n) a i low high = ⊎_elim (λ lt. inr (counting_in n (a + 1) i (omega arith) (omega arith))) (λ le. inl (omega arith)) (cases_lt a i)
 
 -- a level that is offered comes before the end of the levels
-level_short : (ls : List Level) (n : ℕ) (l : Level) → level_at ls n ≡ Some l → n < length ls
-level_short [] n l e = absurd (none-some refl e)
-level_short (x ∷ ls) zero l e = omega arith
-level_short (x ∷ ls) (suc n) l e = omega (arith, level_short ls n l e)
-
 offered_short : (p : ProcessorFigures) (t : FiguresOfTask) (h n : ℕ) (m : Measure) → offer p t h n ≡ Some m → n < length p.levels
-offered_short p t h n m = at (level_at p.levels n) refl
+offered_short p t h n m = at (slice_get p.levels n) refl
   where
-    at : (o : Option Level) → level_at p.levels n ≡ o → offer_at p t h o ≡ Some m → n < length p.levels
+    at : (o : Option Level) → slice_get p.levels n ≡ o → offer_at p t h o ≡ Some m → n < length p.levels
     at None e f = absurd (none-some refl f)
-    at (Some l) e f = level_short p.levels n l e
+    at (Some l) e f = slice_get_within p.levels n l e
 
 -- the rows of a list of standing tasks, under whatever limits
 module _ {C : Type 0} (k : Meaning C) (p : ProcessorFigures) (h : ℕ) where

@@ -1,11 +1,7 @@
--- The text of a cost of at most two numbers, from what is found at its first two places; and how long a number is.
-use Rattle.std.proofs.Common.{◌≡◌, ℕ, ◌^◌, ◌<◌, ◌≤◌, List, [], ◌∷◌, ◌++◌, length, Some, None, decimal, refl, ap, ◌∙◌, arith}
+-- The text of a cost of at most two numbers, from what is found at its first two places.
+use Rattle.std.proofs.Common.{◌≡◌, ℕ, ◌≤◌, List, [], ◌∷◌, ◌++◌, length, Some, None, decimal, refl, ap, ◌∙◌, arith}
 use Rattle.std.specs.List.{slice_get}
-use Rattle.std.proofs.lemmas.Fmt.{length-decimal-le}
 use Rattle.plantext.specs.Answers.{numbers_text}
-
-pub length_number : (n : ℕ) → n < 2 ^ 64 → length (decimal n) ≤ 20
-length_number n fits = length-decimal-le 20 n (omega arith) (omega arith) fits
 
 pub no_number : (ns : List ℕ) → None ≡ slice_get ns 0 → [] ≡ numbers_text ns
 no_number [] none = refl

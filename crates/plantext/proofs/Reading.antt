@@ -1,8 +1,7 @@
 -- Digits read one after another, and numbers that are read back as they were written.
-use Rattle.std.proofs.Common.{◌≡◌, ℕ, zero, suc, ◌+◌, ◌-◌, ◌*◌, ◌/◌, ◌%◌, ◌^◌, ◌<◌, ◌≤◌, Bool, true, false, cond, ◌&&◌, leb, List, [], ◌∷◌, ◌++◌, length, get_or, drop, Some, None, decimal, Option, refl, ap, ◌∙◌, pow-suc, add-one, arith, lit<}
+use Rattle.std.proofs.Common.{◌≡◌, ℕ, zero, suc, ◌+◌, ◌-◌, ◌*◌, ◌/◌, ◌%◌, ◌^◌, ◌<◌, ◌≤◌, Bool, true, false, cond, ◌&&◌, leb, List, [], ◌∷◌, ◌++◌, length, get_or, Some, None, decimal, Option, refl, ap, ◌∙◌, arith, lit<}
 use native.Mathlib.Nat.{pow-le-pow_right}
 use Rattle.std.proofs.lemmas.Fmt.{decimal_by_steps, decimal_digit, decimal_nonempty, first_decimal, length-decimal-le}
-use Rattle.std.proofs.lemmas.List.{at_drop_more}
 use Rattle.std.proofs.lemmas.Bool.Decides.{nat_tests}
 use Rattle.plantext.specs.Numbers.{read_on, plain, number_within, WrittenReadBack}
 
@@ -14,16 +13,7 @@ digit_fits n i few small =
     let most = pow-le-pow_right {n = 10} some {i = i} {j = 17} le in
     omega arith
 
-pub digit_more : (n d i : ℕ) → d < 10 → n < 10 ^ i → n * 10 + d < 10 ^ (i + 1)
-digit_more n d i digit small =
-    let next : 10 ^ (i + 1) ≡ 10 ^ i * 10 = ap (λ m. 10 ^ m) (add-one i) ∙ pow-suc 10 i in
-    omega arith
-
--- one turn of the reading
-pub read_more : (n i : ℕ) (bs : List ℕ) → i < length bs → read_on n (drop i bs) ≡ cond (leb 48 (get_or bs i 0) && leb (get_or bs i 0) 57) (read_on (n * 10 + (get_or bs i 0 - 48)) (drop (i + 1) bs)) None
-read_more n i bs within = at_drop_more (read_on n) bs i 0 within
-
-pub read_plain : (most : ℕ) (bs : List ℕ) → plain most bs ≡ true → number_within most bs ≡ read_on 0 bs
+read_plain : (most : ℕ) (bs : List ℕ) → plain most bs ≡ true → number_within most bs ≡ read_on 0 bs
 read_plain most bs is = rw is refl
 
 pub plain_short : (most : ℕ) (bs : List ℕ) → plain most bs ≡ true → length bs ≤ most

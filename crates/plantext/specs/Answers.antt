@@ -6,15 +6,13 @@
 --   numbers_text ns                the numbers in decimal, with a comma between two
 --   plan_text numbers levels f     the lines of a plan with the figures f, of whose cost `numbers` gives what is printed
 --   fault_text f                   the lines of a refusal
---   answer_text numbers levels o   the text of the answer of a job call with the outcome o
+--   answer_text numbers levels o   the text of the answer of a job call with the outcome o: the figures of a plan, none where it was no plan, or a fault
 --   room_needed                    an answer is written where the buffer has at least 256 bytes
 --   written text found             the buffer that held `found`, after the answer: the text, and the rest as it was; one with too little room is left as found
 --   written_length text found      how many bytes were written
 use Rattle.std.specs.Prelude.{ℕ, ◌+◌, cond, List, [], ◌∷◌, ◌++◌, map, length, Some, None, Ok, Err, codes, decimal, Option, Result, nat_le, nat_lt}
 use Rattle.plans.specs.declared.figures.Figures.{Figures}
 use Rattle.plans.specs.Plans.{laid}
-use Rattle.plantext.specs.declared.answers.Outcome.{Outcome}
-use Rattle.plantext.specs.declared.answers.Outcome.TheVariants.{Done, Given}
 use Rattle.plantext.specs.declared.faults.JobFault.{JobFault}
 use Rattle.plantext.specs.Faults.{job_numbered}
 
@@ -51,9 +49,9 @@ fault_text f =
     ++ (line_of (codes "line=") (decimal (job_numbered f).line)
     ++ line_of (codes "port=") (decimal (job_numbered f).port))
 
-abbrev pub answer_text : {C : Type 0} → (C → List ℕ) → List ℕ → Result (Outcome C) JobFault → List ℕ
-answer_text numbers levels (Ok Done) = line_of (codes "answer=") (decimal 0)
-answer_text numbers levels (Ok (Given f)) = plan_text numbers levels f
+abbrev pub answer_text : {C : Type 0} → (C → List ℕ) → List ℕ → Result (Option (Figures C)) JobFault → List ℕ
+answer_text numbers levels (Ok None) = line_of (codes "answer=") (decimal 0)
+answer_text numbers levels (Ok (Some f)) = plan_text numbers levels f
 answer_text numbers levels (Err f) = fault_text f
 
 abbrev pub room_needed : ℕ

@@ -1,6 +1,5 @@
-// Decimal numbers: read from a slice, and written into one.
-ghost use Rattle.std.specs.Prelude.{◌≡◌, ◌+◌, ◌≤◌, length, decimal};
-ghost use Rattle.plantext.specs.Laying.{Laid};
+// Decimal numbers, read from a slice.
+ghost use Rattle.std.specs.Prelude.{◌≡◌, ◌≤◌};
 ghost use Rattle.plantext.specs.Numbers.{plain, number_within, number_of, WrittenReadBack};
 
 // the most digits that a number of job text has
@@ -22,12 +21,13 @@ fn read_within(digits: &[u8], most: usize) -> Option<u64>
     if !is_plain(digits, most) {
         return None;
     }
+    // a loop: what bounds the number is how many digits were read, which the closure of a fold does not see
     let mut n: u64 = 0;
     for b in digits {
         if !b.is_ascii_digit() {
             return None;
         }
-        n = n * 10 + (*b - b'0') as u64;
+        n = n * 10 + u64::from(*b - b'0');
     }
     Some(n)
 }
@@ -37,19 +37,5 @@ fn is_plain(digits: &[u8], most: usize) -> bool
     ensures { result ≡ plain most digits.now }
 {
     let count = digits.len();
-    1 <= count && count <= most && (count == 1 || digits[0] != b'0')
-}
-
-// Writes `n` at `at`, and says where the text goes on.
-pub(crate) fn put_number(out: &mut [u8], at: usize, n: u64) -> usize
-    requires { at + length (decimal n) ≤ length out.old }
-    ensures { Laid at (decimal n) out.old result out.new }
-{
-    if n < 10 {
-        out[at] = b'0' + n as u8;
-        return at + 1;
-    }
-    let next = put_number(out, at, n / 10);
-    out[next] = b'0' + (n % 10) as u8;
-    next + 1
+    (1..=most).contains(&count) && (count == 1 || digits[0] != b'0')
 }

@@ -16,19 +16,12 @@ const FILL: u8 = b'#';
 const BARE: [u8; 48] = [255; 48];
 
 // The text stands at the start of the buffer, and nothing behind it is written.
-fn check_answer<K: JobKind>(
-    rt: &impl Abort,
-    outcome: &Result<Outcome<K>, JobFault>,
-    levels: &[u8; 48],
-    text: &[u8],
-) {
+fn check_answer<K: JobKind>(rt: &impl Abort, outcome: &Outcome<K>, levels: &[u8; 48], text: &[u8]) {
     let mut buffer = [FILL; 256];
     let length = write_answer(outcome, levels, &mut buffer);
     assert!(rt; length == text.len() && length < 256);
     assert_eq!(rt; &buffer[0..length], text);
-    for byte in &buffer[length..] {
-        assert!(rt; *byte == FILL);
-    }
+    assert!(rt; buffer[length..].iter().all(|byte| *byte == FILL));
 }
 
 #[test]
@@ -51,7 +44,7 @@ fn plan_of_both(rt: HostRuntime) {
     };
     check_answer(
         &rt,
-        &Ok(Outcome::Given(figures)),
+        &Ok(Some(figures)),
         &levels,
         b"answer=0\ncost=51200000,900\nload=640\nlimit=1000\nstates=17\nlevels=0-3--------------------------------------------7\n",
     );
@@ -67,7 +60,7 @@ fn plan_of_nothing(rt: HostRuntime) {
     };
     check_answer(
         &rt,
-        &Ok(Outcome::Given(figures)),
+        &Ok(Some(figures)),
         &BARE,
         b"answer=0\ncost=0\nload=0\nlimit=0\nstates=0\nlevels=------------------------------------------------\n",
     );
@@ -75,7 +68,7 @@ fn plan_of_nothing(rt: HostRuntime) {
 
 #[test]
 fn done_and_refusals(rt: HostRuntime) {
-    check_answer::<Peak>(&rt, &Ok(Outcome::Done), &BARE, b"answer=0\n");
+    check_answer::<Peak>(&rt, &Ok(None), &BARE, b"answer=0\n");
     check_answer::<Peak>(
         &rt,
         &Err(JobFault::LongText),
@@ -102,9 +95,7 @@ fn done_and_refusals(rt: HostRuntime) {
 #[test]
 fn buffer_of_255_bytes_stays(rt: HostRuntime) {
     let mut buffer = [FILL; 255];
-    let done: Result<Outcome<Peak>, JobFault> = Ok(Outcome::Done);
+    let done: Outcome<Peak> = Ok(None);
     assert_eq!(rt; write_answer(&done, &BARE, &mut buffer), 0);
-    for byte in &buffer {
-        assert!(rt; *byte == FILL);
-    }
+    assert!(rt; buffer == [FILL; 255]);
 }

@@ -11,8 +11,10 @@ use Rattle.board.specs.declared.measures.Measure.{Measure}
 use Rattle.board.specs.Processors.{ProcessorFigures, between, levels_fit, standby_fits, processor_fits}
 use Rattle.board.specs.Periods.{period_fits, hyperperiod, longest}
 use Rattle.board.specs.Tasks.{FiguresOfTask, figures_fit, shares_fit, busy_time}
-use Rattle.board.specs.Measures.{measure, most_time, offered, level_at, offer_at, offer, counts_in, belongs, Among, Own, Offered}
-use Rattle.board.proofs.Leveling.{some_level, top_last, level_there}
+use Rattle.board.specs.Measures.{measure, most_time, offered, offer_at, offer, counts_in, belongs, Among, Own, Offered}
+use Rattle.board.proofs.Leveling.{some_level, top_last}
+use Rattle.std.specs.List.{slice_get}
+use Rattle.std.proofs.lemmas.Option.{slice_get-get_or}
 use Rattle.plans.specs.Boards.{Standing, standing, due_time, due_of, joint_period}
 use Rattle.plans.specs.Choices.{In}
 use Rattle.plans.specs.Promises.{Measured}
@@ -35,13 +37,13 @@ module _ (p : ProcessorFigures) (fits : processor_fits p ≡ true) (t : FiguresO
       let l = get_or p.levels n none in (
         n,
         measure p t h l,
-        ap (offer_at p t h) (level_there p.levels n none (omega arith))
+        ap (offer_at p t h) (slice_get-get_or p.levels n none (omega arith))
             ∙ cond-true (offered t l) (Some (measure p t h l)) None (subst (λ speed. leb (busy_time t.cycles speed) (most_time t.due) ≡ true) (top_last p.levels none some) e),
       )
 
   -- under the hyperperiod of some periods, its own among them
   module _ (periods : List ℕ) (few : length periods ≤ 48) (in_range : list_all period_fits periods ≡ true) (own : Own t.due periods) (short : hyperperiod periods ≤ longest) (is : hyperperiod periods ≡ h) (task_fits : figures_fit p t ≡ true) where
-    offered_at : (level : ℕ) (o : Option Level) → level_at p.levels level ≡ o → (m : Measure) → offer_at p t h o ≡ Some m → Offered m
+    offered_at : (level : ℕ) (o : Option Level) → slice_get p.levels level ≡ o → (m : Measure) → offer_at p t h o ≡ Some m → Offered m
     offered_at level None at m e = absurd (none-some refl e)
     offered_at level (Some l) at m e =
         let g = given (offered t l) (measure p t h l) m e in
@@ -63,7 +65,7 @@ module _ (p : ProcessorFigures) (fits : processor_fits p ≡ true) (t : FiguresO
         } ∣₁
 
     task_measures : (level : ℕ) (m : Measure) → offer p t h level ≡ Some m → Offered m
-    task_measures level m e = offered_at level (level_at p.levels level) refl m e
+    task_measures level m e = offered_at level (slice_get p.levels level) refl m e
 
 own_period : (due : Due) (ps : List ℕ) → Among (due_time due) ps → Own due ps
 own_period (Period p) ps h = h

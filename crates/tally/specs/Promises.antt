@@ -4,16 +4,13 @@
 --                          any other such choice costs at least as much, and at equal cost has at least that load
 --   Promised k rows able r levels   if the answer r is a plan, it is such a plan; and where planning is able to,
 --                          r is "none fits" exactly if no choice keeps every limit
---   Left k rows room buffer r list levels   the last plan leaves list and levels buffer as planning does, whatever the plans before it left there
 --   Agree r s              if both answers are plans, they have one cost and one load
-use Rattle.std.specs.Prelude.{◌≡◌, ℕ, ◌-◌, ◌≤◌, List, length, Ok, Result, ◌≢◌, slice_index}
+use Rattle.std.specs.Prelude.{◌≡◌, ℕ, ◌-◌, ◌≤◌, List, Ok, Result, ◌≢◌, slice_index}
 use Rattle.board.specs.declared.faults.Fault.{Fault}
 use Rattle.cost.specs.Kinds.{Meaning}
 use Rattle.plans.specs.declared.figures.Figures.{Figures}
-use Rattle.plans.specs.declared.states.State.{State}
 use Rattle.plans.specs.Choices.{In, Row, Taken, load}
 use Rattle.plans.specs.Fronts.{cost}
-use Rattle.plans.specs.Plans.{list_after, levels_after}
 use Rattle.plans.specs.Promises.{Best, NoChoice, number_of}
 
 pub record Told {C : Type 0} (rows : List (Row C)) (c : List (Taken C)) (levels : List ℕ) : Type 0 where
@@ -31,14 +28,6 @@ pub record Promised {C : Type 0} (k : Meaning C) (rows : List (Row C)) (able : T
   pub given : (f : Figures C) → r ≡ Ok f → Given k rows f levels
   pub none_fits : able → number_of r ≡ 32 → NoChoice rows
   pub only_then : able → NoChoice rows → number_of r ≡ 32
-
-pub record Left {C : Type 0} (k : Meaning C) (rows : List (Row C)) (room buffer : ℕ) (r : Result (Figures C) Fault) (list : List (State C)) (levels : List ℕ) : Type 0 where
-  pub list_found : List (State C)
-  pub list_size : length list_found ≡ room
-  pub list_is : list ≡ list_after k rows r list_found list
-  pub levels_found : List ℕ
-  pub levels_size : length levels_found ≡ buffer
-  pub levels_are : levels ≡ levels_after k rows r levels_found
 
 abbrev pub Agree : {C : Type 0} → Result (Figures C) Fault → Result (Figures C) Fault → Type 0
 Agree {C} r s = (f g : Figures C) → r ≡ Ok f → s ≡ Ok g → (f.cost ≡ g.cost) × (f.load ≡ g.load)

@@ -21,8 +21,8 @@ fn draw(level: Level, standby: &[u64], shares: &[u64]) -> u64
     ensures { result ≡ 1000 * level.mw + standby_sum standby.now shares.now }
 {
     let mut draw = 1000 * level.mw;
-    for device in 0..standby.len() {
-        draw += standby[device] * shares[device];
+    for (power, share) in standby.iter().zip(shares) {
+        draw += power * share;
     }
     draw
 }
@@ -105,11 +105,7 @@ impl Processor {
         if !belongs(self, task, hyperperiod.micros()) {
             return None;
         }
-        let levels = self.levels();
-        if number >= levels.len() {
-            return None;
-        }
-        let level = levels[number];
+        let level = *self.levels().get(number)?;
         if !is_offered(task, level) {
             return None;
         }

@@ -7,25 +7,21 @@ ghost use Rattle.std.specs.List.{list_all};
 use super::Processor;
 use crate::faults::Fault;
 use crate::levels::Level;
-use crate::ranges::{each_at_most, in_eight};
+use crate::ranges::each_at_most;
+use shortlist::lists::ShortList;
 
 // The level's figures are in range.
 fn level_fits(level: &Level) -> bool
     ensures { result ≡ level_fits level.now }
 {
-    1 <= level.mhz && level.mhz <= 4000 && 1 <= level.mw && level.mw <= 60_000
+    (1..=4000).contains(&level.mhz) && (1..=60_000).contains(&level.mw)
 }
 
 // The figures of each level are in range.
 fn each_level_fits(levels: &[Level]) -> bool
     ensures { result ≡ list_all level_fits levels.now }
 {
-    for level in levels {
-        if !level_fits(level) {
-            return false;
-        }
-    }
-    true
+    levels.iter().all(level_fits)
 }
 
 // The upper level has more speed and more power.
@@ -39,12 +35,7 @@ fn level_below(lower: &Level, upper: &Level) -> bool
 fn each_level_rises(levels: &[Level]) -> bool
     ensures { result ≡ rising levels.now }
 {
-    for i in 1..levels.len() {
-        if !level_below(&levels[i - 1], &levels[i]) {
-            return false;
-        }
-    }
-    true
+    levels.is_sorted_by(level_below)
 }
 
 impl Processor {
@@ -52,17 +43,15 @@ impl Processor {
     pub fn new(levels: &[Level], standby: &[u64]) -> Result<Processor, Fault>
         ensures { processor_view result ≡ processor_made (record { levels = levels.now; standby = standby.now }) }
     {
-        if levels.len() < 1 || levels.len() > 8 || standby.len() > 8 {
+        if levels.is_empty()
+            || !each_level_fits(levels)
+            || !each_level_rises(levels)
+            || !each_at_most(standby, 5000)
+        {
             return Err(Fault::BadProcessor);
         }
-        if !each_level_fits(levels) || !each_level_rises(levels) || !each_at_most(standby, 5000) {
-            return Err(Fault::BadProcessor);
-        }
-        Ok(Processor {
-            levels: in_eight(levels, levels[0]),
-            level_count: levels.len(),
-            standby: in_eight(standby, 0),
-            device_count: standby.len(),
-        })
+        let levels = ShortList::of(levels, levels[0]).ok_or(Fault::BadProcessor)?;
+        let standby = ShortList::of(standby, 0).ok_or(Fault::BadProcessor)?;
+        Ok(Processor { levels, standby })
     }
 }

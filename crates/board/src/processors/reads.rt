@@ -10,15 +10,13 @@ impl Processor {
     pub fn levels(&self) -> &[Level]
         ensures { result.now ≡ (processor_figures self.now).levels }
     {
-        let all = &self.levels[..];
-        &all[0..self.level_count]
+        self.levels.items()
     }
 
     // The standby power of each device, in mW.
     pub fn standby(&self) -> &[u64]
         ensures { result.now ≡ (processor_figures self.now).standby }
     {
-        let all = &self.standby[..];
-        &all[0..self.device_count]
+        self.standby.items()
     }
 }

@@ -7,8 +7,10 @@ ghost use Rattle.board.specs.Views.{processor_figures, task_view, named_figures}
 use super::{Task, TaskFigures};
 use crate::dues::Due;
 use crate::faults::Fault;
+use crate::periods::period_fits;
 use crate::processors::Processor;
-use crate::ranges::{each_at_most, in_eight};
+use crate::ranges::each_at_most;
+use shortlist::lists::ShortList;
 
 // Cycles over MHz, rounded up: the time in µs.
 pub(crate) fn busy_time(cycles: u64, mhz: u64) -> u64
@@ -23,7 +25,7 @@ fn due_fits(due: Due, clock: u64) -> bool
     ensures { result ≡ due_fits clock due }
 {
     match due {
-        Due::Period(period) => 100 <= period && period <= 10_000_000,
+        Due::Period(period) => period_fits(period),
         Due::Deadline(deadline) => clock < deadline && deadline - clock <= 60_000_000,
     }
 }
@@ -70,6 +72,7 @@ impl Task {
     ) -> Result<Task, Fault>
         ensures { task_view result ≡ judged (processor_figures processor.now) port clock (named_figures figures.entry) }
     {
+        let shares = ShortList::of(figures.shares, 0).ok_or(Fault::BadFigure(port))?;
         if !figures_fit(processor, figures) {
             return Err(Fault::BadFigure(port));
         }
@@ -82,8 +85,7 @@ impl Task {
         Ok(Task {
             cycles: figures.cycles,
             access: figures.access,
-            shares: in_eight(figures.shares, 0),
-            device_count: figures.shares.len(),
+            shares,
             due: figures.due,
         })
     }

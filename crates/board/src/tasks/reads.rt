@@ -23,8 +23,7 @@ impl Task {
     pub fn shares(&self) -> &[u64]
         ensures { result.now ≡ (task_figures self.now).shares }
     {
-        let all = &self.shares[..];
-        &all[0..self.device_count]
+        self.shares.items()
     }
 
     pub fn due(&self) -> Due

@@ -11,14 +11,14 @@ impl Task {
     pub fn served(&self, cycles: u64) -> Option<Task>
         ensures { option_map task_figures result ≡ rest cycles (task_figures self.now) }
     {
-        if cycles < 1 || cycles >= self.cycles {
+        if !(1..self.cycles).contains(&cycles) {
             return None;
         }
+        // each field by itself: `..*self` is not covered in a struct with ghost fields
         Some(Task {
             cycles: self.cycles - cycles,
             access: self.access,
             shares: self.shares,
-            device_count: self.device_count,
             due: self.due,
         })
     }

@@ -13,7 +13,8 @@ use crate::capacities::Capacity;
 use crate::periods::hyperperiod_of;
 use crate::ports::{free_place, taken_place, without};
 use crate::settings::capacity_fits;
-use crate::tasks::periodic_task;
+use crate::tasks::task_named;
+use board::dues::Due;
 use board::faults::Fault;
 use board::levels::Level;
 use board::processors::Processor;
@@ -52,7 +53,8 @@ impl PeriodicBook {
         ensures book { periodic_figures self.new ≡ after (periodic_figures self.old) (admitting port (task_of cycles access shares.now (Period period))) }
     {
         let place = free_place(&self.tasks, port)?;
-        let task = periodic_task(&self.processor, port, cycles, access, shares, period)?;
+        let due = Due::Period(period);
+        let task = task_named(&self.processor, port, 0, cycles, access, shares, due)?;
         let mut tasks = self.tasks;
         tasks[place] = Some(task);
         if hyperperiod_of(&tasks).is_none() {

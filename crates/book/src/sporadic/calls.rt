@@ -12,7 +12,8 @@ use super::SporadicBook;
 use crate::ports::{free_place, taken_place, without};
 use crate::serving::rest_of;
 use crate::settings::clock_fits;
-use crate::tasks::sporadic_task;
+use crate::tasks::task_named;
+use board::dues::Due;
 use board::faults::Fault;
 use board::levels::Level;
 use board::processors::Processor;
@@ -52,15 +53,8 @@ impl SporadicBook {
     {
         let place = free_place(&self.tasks, port)?;
         let clock = self.clock;
-        let task = sporadic_task(
-            &self.processor,
-            port,
-            clock,
-            cycles,
-            access,
-            shares,
-            deadline,
-        )?;
+        let due = Due::Deadline(deadline);
+        let task = task_named(&self.processor, port, clock, cycles, access, shares, due)?;
         self.tasks[place] = Some(task);
         Ok(())
     }

@@ -6,37 +6,27 @@ ghost use Rattle.fronts.specs.Views.{listed_rows};
 use super::Rows;
 use crate::row::Row;
 use board::offers::Offer;
+use shortlist::lists::ShortList;
 
 // No level is offered.
 fn nothing_offered(offers: &[Option<Offer>; 8]) -> bool
     ensures { result ≡ nothing_offered offers.now }
 {
-    for level in 0..8 {
-        let offer = offers[level];
-        if let Some(_) = offer {
-            return false;
-        }
-    }
-    true
+    offers.iter().all(Option::is_none)
 }
 
 // None of the first rows has the port.
 fn port_free(rows: &[Row], port: u64) -> bool
     ensures { result ≡ port_free port rows.now }
 {
-    for row in rows {
-        if row.port == port {
-            return false;
-        }
-    }
-    true
+    rows.iter().all(|row| row.port != port)
 }
 
 // The row may stand behind the others.
 fn row_fits(rows: &[Row], row: &Row) -> bool
     ensures { result ≡ row_fits rows.now row.now }
 {
-    1 <= row.port && row.port <= 48 && !nothing_offered(&row.offers) && port_free(rows, row.port)
+    (1..=48).contains(&row.port) && !nothing_offered(&row.offers) && port_free(rows, row.port)
 }
 
 impl Rows {
@@ -50,8 +40,7 @@ impl Rows {
             offers: [None; 8],
         };
         Rows {
-            rows: [nothing; 48],
-            count: 0,
+            rows: ShortList::none(nothing),
         }
     }
 
@@ -61,19 +50,13 @@ impl Rows {
         ensures answer { result ≡ (nat_lt (length (listed_rows self.old)) 48 && row_fits (listed_rows self.old) row.now) }
         ensures rows { listed_rows self.new ≡ (if result then listed_rows self.old ++ row.now ∷ [] else listed_rows self.old) }
     {
-        if self.count >= 48 || !row_fits(self.rows(), row) {
-            return false;
-        }
-        self.rows[self.count] = *row;
-        self.count += 1;
-        true
+        row_fits(self.rows(), row) && self.rows.push(*row)
     }
 
     // The rows, from the first on.
     pub fn rows(&self) -> &[Row]
         ensures { result.now ≡ listed_rows self.now }
     {
-        let all = &self.rows[..];
-        &all[0..self.count]
+        self.rows.items()
     }
 }

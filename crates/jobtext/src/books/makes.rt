@@ -9,7 +9,7 @@ ghost use Rattle.book.specs.Tasks.{task_of};
 ghost use Rattle.jobtext.specs.declared.headers.Rule.TheVariants as rules;
 ghost use Rattle.jobtext.specs.Calls.{due_at, takes};
 ghost use Rattle.jobtext.specs.Books.{job_book, booked, book_view};
-ghost use Rattle.jobtext.specs.Made.{rows_in, done as of_change, given as of_plan, made, no_levels, Changed, Comes};
+ghost use Rattle.jobtext.specs.Made.{rows_in, made, no_levels, Changed, Comes};
 ghost use Rattle.jobtext.specs.Places.{call_figures, word_in};
 
 use super::Book;
@@ -22,27 +22,6 @@ use book::sporadic::SporadicBook;
 use cost::kinds::Kind;
 use plans::figures::Figures;
 use plans::states::State;
-use plantext::answers::Outcome;
-
-// The answer of a call that changes what stands.
-fn done<K: Kind>(answer: Result<(), Fault>) -> Result<Outcome<K>, Fault>
-    ensures { result ≡ of_change answer }
-{
-    match answer {
-        Ok(()) => Ok(Outcome::Done),
-        Err(fault) => Err(fault),
-    }
-}
-
-// The answer of a plan or a trial.
-fn given<K: Kind>(answer: Result<Figures<K>, Fault>) -> Result<Outcome<K>, Fault>
-    ensures { result ≡ of_plan answer }
-{
-    match answer {
-        Ok(figures) => Ok(Outcome::Given(figures)),
-        Err(fault) => Err(fault),
-    }
-}
 
 impl Book {
     // An empty book of this rule.
@@ -58,7 +37,7 @@ impl Book {
     pub(crate) fn rule(&self) -> Rule
         ensures { result ≡ (book_view self.now).rule }
     {
-        match *self {
+        match self {
             Book::Periodic(_) => Rule::Periodic,
             Book::Sporadic(_) => Rule::Sporadic,
         }
@@ -76,17 +55,9 @@ impl Book {
         ensures answer { result ≡ answer_to (book_view self.old).figures (admitting port (task_of cycles access shares.now (due_at (book_view self.old).rule time))) }
         ensures book { book_view self.new ≡ job_book (book_view self.old).rule (after (book_view self.old).figures (admitting port (task_of cycles access shares.now (due_at (book_view self.old).rule time)))) }
     {
-        match *self {
-            Book::Periodic(mut book) => {
-                let answer = book.admit(port, cycles, access, shares, time);
-                *self = Book::Periodic(book);
-                answer
-            }
-            Book::Sporadic(mut book) => {
-                let answer = book.admit(port, cycles, access, shares, time);
-                *self = Book::Sporadic(book);
-                answer
-            }
+        match self {
+            Book::Periodic(book) => book.admit(port, cycles, access, shares, time),
+            Book::Sporadic(book) => book.admit(port, cycles, access, shares, time),
         }
     }
 
@@ -95,17 +66,9 @@ impl Book {
         ensures answer { result ≡ answer_to (book_view self.old).figures (retiring port) }
         ensures book { book_view self.new ≡ job_book (book_view self.old).rule (after (book_view self.old).figures (retiring port)) }
     {
-        match *self {
-            Book::Periodic(mut book) => {
-                let answer = book.retire(port);
-                *self = Book::Periodic(book);
-                answer
-            }
-            Book::Sporadic(mut book) => {
-                let answer = book.retire(port);
-                *self = Book::Sporadic(book);
-                answer
-            }
+        match self {
+            Book::Periodic(book) => book.retire(port),
+            Book::Sporadic(book) => book.retire(port),
         }
     }
 
@@ -115,7 +78,7 @@ impl Book {
         ensures list { list.new ≡ list_after K.Kind.meaning (rows_in K.Kind.meaning (book_view self.now)) result list.old list.new }
         ensures levels { levels.new ≡ levels_after K.Kind.meaning (rows_in K.Kind.meaning (book_view self.now)) result levels.old }
     {
-        match *self {
+        match self {
             Book::Periodic(book) => book.plan(list, levels),
             Book::Sporadic(book) => book.plan(list, levels),
         }
@@ -127,12 +90,8 @@ impl Book {
         ensures answer { result ≡ answer_to (book_view self.old).figures (set_capacity thousandths) }
         ensures book { book_view self.new ≡ job_book (book_view self.old).rule (after (book_view self.old).figures (set_capacity thousandths)) }
     {
-        match *self {
-            Book::Periodic(mut book) => {
-                let answer = book.capacity(thousandths);
-                *self = Book::Periodic(book);
-                answer
-            }
+        match self {
+            Book::Periodic(book) => book.capacity(thousandths),
             Book::Sporadic(_) => unreachable(),
         }
     }
@@ -150,12 +109,8 @@ impl Book {
         ensures list { list.new ≡ list_after K.Kind.meaning (periodic_rows_of K.Kind.meaning (at_capacity (book_view self.old).figures thousandths)) result list.old list.new }
         ensures levels { levels.new ≡ levels_after K.Kind.meaning (periodic_rows_of K.Kind.meaning (at_capacity (book_view self.old).figures thousandths)) result levels.old }
     {
-        match *self {
-            Book::Periodic(mut book) => {
-                let answer = book.trial(thousandths, list, levels);
-                *self = Book::Periodic(book);
-                answer
-            }
+        match self {
+            Book::Periodic(book) => book.trial(thousandths, list, levels),
             Book::Sporadic(_) => unreachable(),
         }
     }
@@ -166,13 +121,9 @@ impl Book {
         ensures answer { result ≡ answer_to (book_view self.old).figures (serving port cycles) }
         ensures book { book_view self.new ≡ job_book (book_view self.old).rule (after (book_view self.old).figures (serving port cycles)) }
     {
-        match *self {
+        match self {
             Book::Periodic(_) => unreachable(),
-            Book::Sporadic(mut book) => {
-                let answer = book.serve(port, cycles);
-                *self = Book::Sporadic(book);
-                answer
-            }
+            Book::Sporadic(book) => book.serve(port, cycles),
         }
     }
 
@@ -182,13 +133,9 @@ impl Book {
         ensures answer { result ≡ answer_to (book_view self.old).figures (set_clock time) }
         ensures book { book_view self.new ≡ job_book (book_view self.old).rule (after (book_view self.old).figures (set_clock time)) }
     {
-        match *self {
+        match self {
             Book::Periodic(_) => unreachable(),
-            Book::Sporadic(mut book) => {
-                let answer = book.clock(time);
-                *self = Book::Sporadic(book);
-                answer
-            }
+            Book::Sporadic(book) => book.clock(time),
         }
     }
 
@@ -204,7 +151,7 @@ impl Book {
                 access,
                 time,
                 shares,
-            } => self.admit(port, cycles, access, shares.listed(), time),
+            } => self.admit(port, cycles, access, shares.items(), time),
             JobCall::Retire { port } => self.retire(port),
             JobCall::Capacity { thousandths } => self.capacity(thousandths),
             JobCall::Serve { port, cycles } => self.serve(port, cycles),
@@ -213,21 +160,21 @@ impl Book {
         }
     }
 
-    // Makes a call. A plan or a trial is made in the list and the buffer.
+    // Makes a call; a plan or a trial, which has figures, is made in the list and the buffer.
     pub(crate) fn make<K: Kind>(
         &mut self,
         call: JobCall,
         list: &mut [State<K>],
         levels: &mut [u8],
-    ) -> Result<Outcome<K>, Fault>
+    ) -> Result<Option<Figures<K>>, Fault>
         requires taken { takes (book_view self.old).rule (word_in call) ≡ true }
         requires blank { levels.old ≡ no_levels }
         ensures { Comes (made K.Kind.meaning (length list.old) (book_view self.old) (call_figures (book_view self.old).rule call)) result (book_view self.new) levels.new list.old list.new }
     {
         match call {
-            JobCall::Plan => given(self.plan(list, levels)),
-            JobCall::Trial { thousandths } => given(self.trial(thousandths, list, levels)),
-            _ => done(self.change(call)),
+            JobCall::Plan => self.plan(list, levels).map(Some),
+            JobCall::Trial { thousandths } => self.trial(thousandths, list, levels).map(Some),
+            _ => self.change(call).map(|()| None),
         }
     }
 }

@@ -1,47 +1,29 @@
 // Reading a call.
-ghost use Rattle.std.specs.Prelude.{◌≡◌, ◌≤◌, true, take, IfSome, IfOk, codes};
+ghost use Rattle.std.specs.Prelude.{◌≡◌, ◌≤◌, true, IfSome, IfOk, codes};
 ghost use Rattle.jobtext.specs.declared.calls.Word.TheVariants as words;
 ghost use Rattle.jobtext.specs.Lines.{due};
 ghost use Rattle.jobtext.specs.Calls.{takes, word_named, word_of, due_key, call_lines, job_call};
 ghost use Rattle.jobtext.specs.Headers.{number_line};
 ghost use Rattle.jobtext.specs.Places.{place, read_view, call_view, word_in};
 
-use super::{JobCall, Shares, Word};
+use super::{JobCall, Word};
 use crate::headers::Rule;
 use crate::readers::Reader;
-use crate::readers::lines::is;
 use plantext::faults::JobFault;
-
-impl Shares {
-    // The share of each device.
-    pub(crate) fn listed(&self) -> &[u64]
-        ensures { result.now ≡ take self.now.count self.now.all }
-    {
-        let all = &self.all[..];
-        &all[0..self.count]
-    }
-}
 
 // The word with this name.
 fn word_named(name: &[u8]) -> Option<Word>
     ensures { result ≡ word_named name.now }
 {
-    if is(name, b"admit") {
-        Some(Word::Admit)
-    } else if is(name, b"retire") {
-        Some(Word::Retire)
-    } else if is(name, b"capacity") {
-        Some(Word::Capacity)
-    } else if is(name, b"trial") {
-        Some(Word::Trial)
-    } else if is(name, b"serve") {
-        Some(Word::Serve)
-    } else if is(name, b"clock") {
-        Some(Word::Clock)
-    } else if is(name, b"plan") {
-        Some(Word::Plan)
-    } else {
-        None
+    match name {
+        b"admit" => Some(Word::Admit),
+        b"retire" => Some(Word::Retire),
+        b"capacity" => Some(Word::Capacity),
+        b"trial" => Some(Word::Trial),
+        b"serve" => Some(Word::Serve),
+        b"clock" => Some(Word::Clock),
+        b"plan" => Some(Word::Plan),
+        _ => None,
     }
 }
 
@@ -62,12 +44,7 @@ fn word_for(rule: Rule, name: &[u8]) -> Option<Word>
     ensures word { result ≡ word_of rule name.now }
     ensures taken { IfSome result (λ w. takes rule w ≡ true) }
 {
-    let word = word_named(name)?;
-    if takes_word(rule, word) {
-        Some(word)
-    } else {
-        None
-    }
+    word_named(name).filter(|word| takes_word(rule, *word))
 }
 
 impl<'a> Reader<'a> {
@@ -76,12 +53,7 @@ impl<'a> Reader<'a> {
         ensures word { read_view result (place self.new) ≡ due (codes "call=") (word_of rule) (place self.old) }
         ensures taken { IfOk result (λ w. takes rule w ≡ true) }
     {
-        let line = self.line_number();
-        let name = self.value(b"call=")?;
-        match word_for(rule, name) {
-            Some(word) => Ok(word),
-            None => Err(JobFault::BadValue { line }),
-        }
+        self.due(b"call=", |name| word_for(rule, name))
     }
 
     // The period or the deadline of a task.
@@ -104,11 +76,7 @@ impl<'a> Reader<'a> {
         let cycles = self.number(b"cycles=")?;
         let access = self.number(b"access=")?;
         let time = self.time(rule)?;
-        let all = self.numbers(b"share=", devices)?;
-        let shares = Shares {
-            all,
-            count: devices,
-        };
+        let shares = self.numbers(b"share=", devices)?;
         Ok(JobCall::Admit {
             port,
             cycles,
@@ -124,6 +92,7 @@ impl<'a> Reader<'a> {
         ensures lines { call_view rule result (place self.new) ≡ call_lines rule devices word (place self.old) }
         ensures word { IfOk result (λ c. word_in c ≡ word) }
     {
+        // one arm for each word, since each has lines of its own: the grammar of calls
         match word {
             Word::Admit => self.admission(rule, devices),
             Word::Retire => {
@@ -151,7 +120,8 @@ impl<'a> Reader<'a> {
         }
     }
 
-    // The next call, of a book of this rule for a processor with so many devices.
+    // The next call, of a book of this rule for a processor with so many devices. No form holds both
+    // already: the rule is one of the type of book, and the devices are read in the header.
     pub(crate) fn call(&mut self, rule: Rule, devices: usize) -> Result<JobCall, JobFault>
         requires { devices ≤ 8 }
         ensures call { call_view rule result (place self.new) ≡ job_call rule devices (place self.old) }

@@ -8,9 +8,8 @@ ghost use Rattle.jobtext.specs.Views.{started_view, opened_view};
 
 use super::{Going, Job, Opened, Stage};
 use crate::books::Book;
-use crate::headers::{Header, KindName};
+use crate::headers::KindName;
 use crate::readers::Reader;
-use board::faults::Fault;
 use board::processors::Processor;
 use plantext::faults::JobFault;
 use std::marker::PhantomData;
@@ -29,18 +28,6 @@ pub(crate) struct Started {
     going: Going,
 }
 
-// The processor that the header names.
-fn processor_of(header: &Header) -> Result<Processor, Fault>
-    ensures { processor_view result ≡ processor_made (header_figures header.now).processor }
-{
-    let levels = &header.levels[..];
-    let standby = &header.standby[..];
-    Processor::new(
-        &levels[0..header.level_count],
-        &standby[0..header.device_count],
-    )
-}
-
 // Reads the header, and makes the book that it asks for.
 fn read_header(text: &[u8]) -> Result<Started, JobFault>
     ensures { started_view result ≡ opened text.now }
@@ -50,22 +37,19 @@ fn read_header(text: &[u8]) -> Result<Started, JobFault>
     }
     let mut reader = Reader::behind(text, 0, 1);
     let header = reader.header()?;
-    let line = reader.line_number();
-    match processor_of(&header) {
-        Ok(processor) => Ok(Started {
-            kind: header.kind,
-            going: Going {
-                at: text.len() - reader.bytes_left(),
-                line,
-                devices: processor.standby().len(),
-                book: Book::of(header.rule, &processor),
-            },
-        }),
-        Err(fault) => Err(JobFault::Refused {
-            fault,
-            line: line - 1,
-        }),
-    }
+    let line = reader.line_number() - 1;
+    let processor = Processor::new(header.levels.items(), header.standby.items()).map_err(
+        |fault| JobFault::Refused { fault, line },
+    )?;
+    Ok(Started {
+        kind: header.kind,
+        going: Going {
+            at: text.len() - reader.bytes_left(),
+            line: reader.line_number(),
+            devices: processor.standby().len(),
+            book: Book::of(header.rule, &processor),
+        },
+    })
 }
 
 impl<K> Job<K> {

@@ -2,27 +2,23 @@
 ghost use Rattle.std.specs.Prelude.{◌≡◌, ◌<◌, ◌≤◌, true, length, is_some, IfSome, Err};
 ghost use Rattle.jobtext.specs.Books.{book_view};
 ghost use Rattle.jobtext.specs.Made.{no_levels};
-ghost use Rattle.jobtext.specs.Jobs.{over, on_line, unless_short, call_at, judged_call, turn, most_left, stage_after, list_left, text_left, answered};
+ghost use Rattle.jobtext.specs.Jobs.{over, unless_short, call_at, judged_call, turn, most_left, stage_after, list_left, text_left, answered};
 ghost use Rattle.jobtext.specs.Views.{stage_view, Takes, Turns};
 
 use super::opens::too_long;
 use super::{Going, Job, Stage};
 use crate::answers::Answered;
 use crate::readers::Reader;
-use board::faults::Fault;
 use cost::kinds::Kind;
 use plans::states::State;
-use plantext::answers::{Outcome, write_answer};
+use plantext::answers::{Outcome, ROOM_NEEDED, write_answer};
 use plantext::faults::JobFault;
 use plantext::kinds::JobKind;
-
-// the fewest bytes of an answer buffer
-const ROOM_NEEDED: usize = 256;
 
 // What comes of a job call: its outcome, and how far the job has come then.
 #[derive(Clone, Copy)]
 pub(crate) struct CallTurn<K> {
-    outcome: Result<Outcome<K>, JobFault>,
+    outcome: Outcome<K>,
     stage: Stage,
 }
 
@@ -37,28 +33,19 @@ fn ended<K: Kind>(fault: JobFault) -> CallTurn<K>
     }
 }
 
-// The outcome with the line of the call at a fault of the book.
-fn on_line<K: Kind>(line: u64, answer: Result<Outcome<K>, Fault>) -> Result<Outcome<K>, JobFault>
-    ensures { result ≡ on_line line answer }
-{
-    match answer {
-        Ok(outcome) => Ok(outcome),
-        Err(fault) => Err(JobFault::Refused { fault, line }),
-    }
-}
-
 // The fault that is answered in a buffer of so many bytes: a short one is looked for behind 11.
 fn unless_short(room: usize, fault: JobFault) -> JobFault
     ensures { result ≡ unless_short room fault }
 {
-    if fault.number() != 11 && room < ROOM_NEEDED {
-        JobFault::ShortAnswer
-    } else {
-        fault
+    match fault {
+        JobFault::LongText => fault,
+        _ if room < ROOM_NEEDED => JobFault::ShortAnswer,
+        _ => fault,
     }
 }
 
-// Reads the next call and makes it.
+// Reads the next call and makes it. What is lent for a call stays in parameters of its own: the contract
+// says of each what it holds before and after.
 fn take_call<K: Kind>(
     going: &Going,
     text: &[u8],
@@ -81,8 +68,9 @@ fn take_call<K: Kind>(
                 devices: going.devices,
                 book,
             });
+            let line = going.line;
             CallTurn {
-                outcome: on_line(going.line, answer),
+                outcome: answer.map_err(|fault| JobFault::Refused { fault, line }),
                 stage,
             }
         }
@@ -119,7 +107,7 @@ impl<K: JobKind> Job<K> {
         room: usize,
         list: &mut [State<K>],
         levels: &mut [u8],
-    ) -> Option<Result<Outcome<K>, JobFault>>
+    ) -> Option<Outcome<K>>
         requires { levels.old ≡ no_levels }
         ensures { Turns (turn K.Kind.meaning text.now (length list.old) room (stage_view self.old.stage)) (stage_view self.old.stage) result (stage_view self.new.stage) levels.new list.old list.new }
     {

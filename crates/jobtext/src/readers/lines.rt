@@ -1,56 +1,26 @@
 // Lines, keys and values: all are parts of the text.
-ghost use Rattle.std.specs.Prelude.{◌≡◌, ◌+◌, ◌<◌, ◌≤◌, length, drop, is_some, IfSome, if◌then◌else◌, Some};
+ghost use Rattle.std.specs.Prelude.{◌≡◌, ℕ, List, Option, IfOk, ◌+◌, ◌<◌, ◌≤◌, length, drop, is_some, IfSome, if◌then◌else◌, Some, ◌==◌, position};
 ghost use Rattle.std.specs.Option.{option_map};
-ghost use Rattle.jobtext.specs.Lines.{cut, behind, is as is_name, due};
-ghost use Rattle.jobtext.specs.Places.{cut_at, alike, place, cut_view, part_view};
+ghost use Rattle.jobtext.specs.Lines.{cut, behind, Place, Reading, due, repeated};
+ghost use Rattle.jobtext.specs.Places.{place, cut_view, read_view, list_view, FormsAs, ReadsAs};
 
 use super::Reader;
 use plantext::faults::JobFault;
+use shortlist::lists::ShortList;
 
 // How many bytes stand before the first end of a line; none if no line is ended.
 fn line_length(bytes: &[u8]) -> Option<usize>
-    ensures cut { cut_at bytes.now result ≡ cut bytes.now }
+    ensures first { result ≡ position (λ b. b == 10) bytes.now }
     ensures inside { IfSome result (λ n. n < length bytes.now) }
 {
-    for (i, byte) in bytes.iter().enumerate() {
-        if *byte == b'\n' {
-            return Some(i);
-        }
-    }
-    None
-}
-
-// Both begin with the same byte.
-fn begin_alike(line: &[u8], key: &[u8]) -> bool
-    ensures { result ≡ alike line.now key.now }
-{
-    match (line, key) {
-        ([byte, ..], [due, ..]) => *byte == *due,
-        _ => false,
-    }
+    bytes.iter().position(|byte| *byte == b'\n')
 }
 
 // What stands behind the key, if the line begins with it.
 fn value_behind<'a>(line: &'a [u8], key: &[u8]) -> Option<&'a [u8]>
     ensures { option_map (λ v. v.now) result ≡ behind key.now line.now }
 {
-    match key {
-        [] => Some(line),
-        [_, keys @ ..] => match line {
-            [_, rest @ ..] if begin_alike(line, key) => value_behind(rest, keys),
-            _ => None,
-        },
-    }
-}
-
-// The bytes are the name, and no more.
-pub(crate) fn is(bytes: &[u8], name: &[u8]) -> bool
-    ensures { result ≡ is_name name.now bytes.now }
-{
-    match value_behind(bytes, name) {
-        Some(rest) => rest.len() == 0,
-        None => false,
-    }
+    line.strip_prefix(key)
 }
 
 impl<'a> Reader<'a> {
@@ -86,7 +56,7 @@ impl<'a> Reader<'a> {
     {
         let rest = self.rest;
         let length = line_length(rest)?;
-        let line = &rest[0..length];
+        let line = &rest[..length];
         *self = Reader {
             rest: &rest[length + 1..],
             line: self.line + 1,
@@ -94,17 +64,39 @@ impl<'a> Reader<'a> {
         Some(line)
     }
 
-    // The value of the next line, which is due to have this key.
-    pub(crate) fn value(&mut self, key: &[u8]) -> Result<&'a [u8], JobFault>
-        ensures { part_view result (place self.new) ≡ due key.now (λ v. Some v) (place self.old) }
+    // What the next line holds, which is due to have this key and a value of this form.
+    pub(crate) fn due<T, F: FnOnce(&'a [u8]) -> Option<T>>(
+        &mut self,
+        key: &[u8],
+        form: F,
+    ) -> Result<T, JobFault>
+        requires { F.IsAlwaysCallable form }
+        ensures read { (means : List ℕ → Option T) → FormsAs (F.post form) means → read_view result (place self.new) ≡ due key.now means (place self.old) }
+        ensures formed { IfOk result (λ x. (v : _) × F.post form v (Some x)) }
     {
-        let number = self.line;
-        match self.line() {
-            Some(line) => match value_behind(line, key) {
-                Some(value) => Ok(value),
-                None => Err(JobFault::WrongKey { line: number }),
-            },
-            None => Err(JobFault::TextEnds { line: number }),
+        let line = self.line;
+        let bytes = self.line().ok_or(JobFault::TextEnds { line })?;
+        let value = value_behind(bytes, key).ok_or(JobFault::WrongKey { line })?;
+        form(value).ok_or(JobFault::BadValue { line })
+    }
+
+    // What is read so many times, up to eight, one behind the other. `fill` stands in the list's places
+    // until then.
+    pub(crate) fn repeated<T: Copy, F: Fn(&mut Reader<'a>) -> Result<T, JobFault>>(
+        &mut self,
+        count: usize,
+        fill: T,
+        read: F,
+    ) -> Result<ShortList<T, 8>, JobFault>
+        requires few { count ≤ 8 }
+        requires callable { F.IsAlwaysCallable read }
+        ensures { (means : Place → Reading T) → ReadsAs (F.post read) means → list_view result (place self.new) ≡ repeated means count (place self.old) }
+    {
+        let mut list = ShortList::none(fill);
+        for _ in 0..count {
+            let item = read(self)?;
+            let _ = list.push(item);
         }
+        Ok(list)
     }
 }

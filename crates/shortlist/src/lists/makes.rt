@@ -1,9 +1,20 @@
 // Making a short list, reading it and adding to it.
-ghost use Rattle.std.specs.Prelude.{◌≡◌, ◌+◌, ◌++◌, ◌∷◌, [], length, nat_le, nat_lt, cond};
+ghost use Rattle.std.specs.Prelude.{◌≡◌, ◌+◌, ◌<◌, ◌++◌, ◌∷◌, [], length, take, drop, nat_le, nat_lt, cond};
 ghost use Rattle.std.specs.Option.{option_map};
-ghost use Rattle.shortlist.specs.Lists.{listed, joined, within};
+ghost use Rattle.shortlist.specs.Lists.{listed, joined, inserted, within};
 
 use super::ShortList;
+
+// Puts the item in front of the one at `at` among the first `count`, or behind them if they are fewer.
+fn put_in<T: Copy>(places: &mut [T], count: usize, at: usize, item: T)
+    requires { count < length places.old }
+    ensures { take (count + 1) places.new ≡ take at (take count places.old) ++ item ∷ drop at (take count places.old) }
+{
+    let place = at.min(count);
+    let end = count + 1;
+    places[count] = item;
+    places[place..end].rotate_right(1);
+}
 
 impl<T: Copy, const N: usize> ShortList<T, N> {
     // No items. `fill` stands in the places until they are taken.
@@ -40,6 +51,20 @@ impl<T: Copy, const N: usize> ShortList<T, N> {
             return false;
         }
         self.places[self.count] = item;
+        self.count += 1;
+        true
+    }
+
+    // One item more at the place `at`, or behind the others if they are fewer. False, and nothing
+    // changed, if there are N already.
+    pub fn insert(&mut self, at: usize, item: T) -> bool
+        ensures answer { result ≡ nat_le (length (listed self.old) + 1) N }
+        ensures items { listed self.new ≡ inserted N (listed self.old) at item }
+    {
+        if self.count >= N {
+            return false;
+        }
+        put_in(&mut self.places, self.count, at, item);
         self.count += 1;
         true
     }

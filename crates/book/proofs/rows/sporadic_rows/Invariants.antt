@@ -7,7 +7,7 @@ use Rattle.book.specs.Rows.{plain_row, standing_row}
 use Rattle.book.proofs.rows.sporadic_rows.Given as goal
 
 -- the rows of the first tasks, by deadline
-abbrev pub invariant-loop-i : goal.invariant-loop-i
-invariant-loop-i l =
+abbrev pub invariant-loop-turn : goal.invariant-loop-turn
+invariant-loop-turn l =
     map plain_row (listed_rows l.rows)
-    ≡ map (λ s. standing_row (processor_figures l.processor) 1 (sporadic_limit (due_of s) l.clock) s) (take l.i (by_deadline (standing 1 (figures_of l.tasks))))
+    ≡ map (λ s. standing_row (processor_figures l.processor) 1 (sporadic_limit (due_of s) l.clock) s) (take l.turn-index (by_deadline (standing 1 (figures_of l.tasks))))

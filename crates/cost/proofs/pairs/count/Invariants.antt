@@ -3,4 +3,4 @@ use Rattle.cost.proofs.pairs.count.Given as goal
 
 -- the numbers up to here are there
 abbrev pub invariant-loop-i : goal.invariant-loop-i
-invariant-loop-i g l = l.i ≤ length (g.A.StrictKind.numbers l.cost)
+invariant-loop-i g l = l.i ≤ length (g.K.Kind.numbers l.cost)

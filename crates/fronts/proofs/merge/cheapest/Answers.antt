@@ -8,10 +8,10 @@ use Rattle.fronts.proofs.merge.cheapest.Goals.{in-Some, in_default}
 
 pub candidate-offered-requires : goal.candidate-offered-requires
 candidate-offered-requires g c = record {
-  low = c.loop-level-test.true;
+  low = omega (arith, c.loop-level-test.true, c.told-cursors);
   position =
       c.requires.positions c.loop-level.level c.in-Some.sum
-      (get_or_default (by_level c.args.heads.now) c.loop-level.level None c.get-head.result c.loop-level-test.true ∙ sym c.get-head.ensures ∙ c.in-Some.is);
+      (get_or_default (by_level c.args.heads.now) c.loop-level.level None c.get.result (omega (arith, c.loop-level-test.true, c.told-cursors)) ∙ sym c.get.ensures ∙ c.in-Some.is);
 }
 
 pub loop-level-preserved : goal.loop-level-preserved
@@ -20,8 +20,8 @@ loop-level-preserved g c =
     let heads = heads_of c.args.base (by_level c.args.heads.now) c.args.cursors.now in
     let n = c.loop-level.level in
     let at = state_of n (c.args.base + get_or c.args.cursors.now n 0) in
-    let read = c.get-head.ensures ∙ get_or_default (by_level c.args.heads.now) n c.get-head.result None c.loop-level-test.true in
-    elim c.match-head.branch [
+    let read = c.get.ensures ∙ get_or_default (by_level c.args.heads.now) n c.get.result None (omega (arith, c.loop-level-test.true, c.told-cursors)) in
+    elim c.match-get.branch [
       | in-Some w ↦
           w.found-is ∙ w.cheaper-found.ensures
           ∙ cheapest_some k heads n c.loop-level.found c.loop-level.invariant w.candidate-offered.result (w.candidate-offered.ensures ∙ ap at (sym w.in-Some.is ∙ read))

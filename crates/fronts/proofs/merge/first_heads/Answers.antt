@@ -15,6 +15,6 @@ loop-level-preserved g c level below =
     ap (λ hs. get_or hs level None) c.put.ensures
     ∙ ⊎_elim
     (λ e. ap (λ l. get_or (set heads n new) l None) e ∙ get_or-set_same heads n new None c.loop-level-test.true ∙ c.head.ensures
-    ∙ ap (λ l. sums g.K.Kind.meaning c.args.base c.args.count c.args.part.now (by_level c.args.offers.now) l 0) (sym e))
+    ∙ ap (λ l. sums g.K.Kind.meaning c.args.front.base c.args.front.count c.args.part.now (by_level c.args.offers.now) l 0) (sym e))
     (λ other. get_or-set_other heads n level new None other ∙ c.loop-level.invariant level (omega arith))
     (cases_eq level n)

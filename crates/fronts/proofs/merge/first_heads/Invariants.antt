@@ -4,4 +4,4 @@ use Rattle.fronts.proofs.Looping.{sums}
 use Rattle.fronts.proofs.merge.first_heads.Given as goal
 
 abbrev pub invariant-loop-level : goal.invariant-loop-level
-invariant-loop-level g l = (level : ℕ) → level < l.level → get_or (by_level l.heads) level None ≡ sums g.K.Kind.meaning l.base l.count l.part (by_level l.offers) level 0
+invariant-loop-level g l = (level : ℕ) → level < l.level → get_or (by_level l.heads) level None ≡ sums g.K.Kind.meaning l.front.base l.front.count l.part (by_level l.offers) level 0

@@ -1,21 +1,17 @@
-use Rattle.std.proofs.Common.{◌≡◌, suc, ◌-◌, ◌≤◌, List, [], ◌∷◌, length, get_or, refl, ap, ◌∙◌, arith}
+use Rattle.std.proofs.Common.{◌≡◌, suc, ◌-◌, List, [], ◌∷◌, length, Some, refl, ap, ◌∙◌, sym, arith}
+use Rattle.std.specs.List.{slice_get}
 use Rattle.cost.specs.Kinds.{Meaning}
 use Rattle.plans.specs.Plans.{last_limit}
+use Rattle.plans.proofs.Members.{none-some}
 use Rattle.fronts.specs.declared.row.Row.{Row}
 use Rattle.fronts.specs.Rows.{rows_of}
+use Rattle.fronts.specs.Views.{listed_rows}
 use Rattle.fronts.proofs.plan.limit_of_last.Goals as goal
 
-none_limit : {C : Type 0} (k : Meaning C) (rs : List Row) → length rs ≡ 0 → 0 ≡ last_limit (rows_of k rs)
-none_limit k [] e = refl
-none_limit k (r ∷ rs) e = absurd (omega arith)
+limit_last : {C : Type 0} (k : Meaning C) (rs : List Row) (r : Row) → slice_get rs (length rs - 1) ≡ Some r → r.limit ≡ last_limit (rows_of k rs)
+limit_last k [] r e = absurd (none-some refl e)
+limit_last k (s ∷ []) r e = let same : s ≡ r = cc in sym (ap (λ (x : Row). x.limit) same)
+limit_last k (s ∷ (t ∷ rs)) r e = let n : length (s ∷ (t ∷ rs)) - 1 ≡ suc (length (t ∷ rs) - 1) = omega arith in limit_last k (t ∷ rs) r (sym (ap (slice_get (s ∷ (t ∷ rs))) n) ∙ e)
 
-limit_at : {C : Type 0} (k : Meaning C) (rs : List Row) → 1 ≤ length rs → (d : Row) → (get_or rs (length rs - 1) d).limit ≡ last_limit (rows_of k rs)
-limit_at k [] h d = absurd (omega arith)
-limit_at k (r ∷ []) h d = refl
-limit_at k (r ∷ (s ∷ rs)) h d = let e : length (r ∷ (s ∷ rs)) - 1 ≡ suc (length (s ∷ rs) - 1) = omega arith in ap (λ n. (get_or (r ∷ (s ∷ rs)) n d).limit) e ∙ limit_at k (s ∷ rs) (omega arith) d
-
-pub returns-then-rows-eq0 : goal.returns-then-rows-eq0
-returns-then-rows-eq0 g c = none_limit g.K.Kind.meaning c.args.rows.now c.if-rows-eq0.true
-
-pub returns : goal.returns
-returns g c = ap (λ (r : Row). r.limit) c.index-rows-rows.is ∙ limit_at g.K.Kind.meaning c.args.rows.now (omega arith) c.index-rows-rows.result
+pub returns-in-Some : goal.returns-in-Some
+returns-in-Some g c = limit_last g.K.Kind.meaning (listed_rows c.args.rows.now) c.in-Some.row.now (ap (λ (rs : List Row). slice_get rs (length rs - 1)) (sym c.rows.ensures) ∙ sym c.in-Some.ensures.value)

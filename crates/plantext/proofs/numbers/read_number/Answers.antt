@@ -1,5 +1,5 @@
 use Rattle.plantext.proofs.Reading.{written_read_back}
 use Rattle.plantext.proofs.numbers.read_number.Goals as goal
 
-pub returns : goal.returns
-returns c = record { number = c.read_within.ensures; back = written_read_back }
+pub returns-clause-back : goal.returns-clause-back
+returns-clause-back c = written_read_back

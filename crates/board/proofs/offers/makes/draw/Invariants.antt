@@ -1,8 +1,7 @@
-use Rattle.std.proofs.Common.{◌≡◌, ◌+◌, ◌*◌, ◌≤◌, drop}
+use Rattle.std.proofs.Common.{◌≡◌, ◌+◌}
 use Rattle.board.specs.Measures.{standby_sum}
 use Rattle.board.proofs.offers.makes.draw.Given as goal
 
-abbrev pub invariant-loop-device : goal.invariant-loop-device
-invariant-loop-device l =
-    (l.draw + standby_sum (drop l.device l.standby) (drop l.device l.shares) ≡ l.initial.draw + standby_sum l.standby l.shares)
-    × (l.draw ≤ 60000000 + l.device * 5000000)
+abbrev pub invariant-loop-power : goal.invariant-loop-power
+invariant-loop-power l =
+    l.draw + standby_sum l.power-iterator.a.rest.now l.power-iterator.b.rest.now ≡ l.initial.draw + standby_sum l.standby l.shares
