@@ -166,8 +166,9 @@ impl fmt::Display for Difference {
             Difference::Uncompleted { load } => {
                 write!(f, "no level completes a pair with a load of {load}")
             }
-            Difference::Memory => write!(f, "out of memory"),
-            Difference::Range => write!(f, "a number of the count does not fit"),
+            // these have no numbers, and tell 0
+            Difference::Memory => write!(f, "memory: the library told 0, counted 0"),
+            Difference::Range => write!(f, "range of the count: the library told 0, counted 0"),
         }
     }
 }

@@ -25,7 +25,7 @@ use crate::figures::{Aim, Board, Rule};
 use crate::making::make_board;
 use crate::numbers::Numbers;
 use crate::totals::Totals;
-use anyhow::Context;
+use anyhow::anyhow;
 use book::periodic::PeriodicBook;
 use book::sporadic::SporadicBook;
 use cost::energies::Energy;
@@ -109,8 +109,8 @@ fn run(rt: &HostRuntime) -> anyhow::Result<()> {
     let mut numbers = Numbers::from_seed(SEED);
     let mut totals = Totals::none();
     for number in 0..BOARDS {
-        compare_next(rt.alloc(), &mut numbers, number, &mut totals).context(format_args!(
-            "board {number}"
+        compare_next(rt.alloc(), &mut numbers, number, &mut totals).map_err(|difference| anyhow!(
+            "board {number}: {difference}"
         ))?;
     }
     totals.print(rt)?;

@@ -64,6 +64,14 @@ fn behind(front: Front, count: usize) -> Front
     }
 }
 
+// How many states the fronts have, up to this one.
+fn states_with(last: Front) -> usize
+    requires { last.start + last.count < 2 ^ 64 }
+    ensures { result ≡ last.start + last.count }
+{
+    last.start + last.count
+}
+
 // All fronts, laid into the list one behind the other.
 fn make_fronts<K: Kind>(
     rows: &Rows,
@@ -88,7 +96,7 @@ fn make_fronts<K: Kind>(
     }
     Ok(Made {
         last,
-        states: last.start + last.count,
+        states: states_with(last),
     })
 }
 

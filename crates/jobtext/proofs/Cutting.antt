@@ -1,12 +1,12 @@
 -- The first line of bytes, by the place of its end; and what stands behind a key.
-use Rattle.std.proofs.Common.{◌≡◌, ℕ, suc, ◌+◌, Bool, true, false, cond, ltb, eqb, not, ◌&&◌, List, [], ◌∷◌, length, take, drop, Some, None, Option, refl, ap, ◌∙◌, sym, arith}
+use Rattle.std.proofs.Common.{◌≡◌, ℕ, suc, ◌+◌, ◌<◌, Bool, true, false, cond, ltb, eqb, not, List, [], ◌∷◌, length, take, drop, Some, None, Option, refl, ap, ◌∙◌, sym, arith}
 use native.Mathlib.Numerals.{unary_clauses}
 use Rattle.std.specs.List.{position, position_or_len}
 use Rattle.std.specs.Option.{option_map}
-use Rattle.std.specs.Cmp.Lexicographic.{pointwise}
+use Rattle.std.proofs.lemmas.Bool.{true≢false}
 use Rattle.std.proofs.lemmas.Bool.Decides.{nat_tests}
 use Rattle.jobtext.specs.Lines.{longer, cut, behind}
-use Rattle.jobtext.specs.Places.{cut_at}
+use Rattle.jobtext.specs.Places.{cut_at, alike}
 
 -- the place of an end, if it is in the bytes
 abbrev inside : ℕ → ℕ → Option ℕ
@@ -28,8 +28,14 @@ pub cut_by_position : (bs : List ℕ) → cut_at bs (position (λ b. eqb b 10) b
 cut_by_position [] = refl
 cut_by_position (b ∷ bs) = by_first b bs (position_or_len (λ b. eqb b 10) bs) (eqb b 10) (cut_by_position bs)
 
-pub key_behind : (key line : List ℕ) → cond (pointwise eqb (take (length key) line) key) (Some (drop (length key) line)) None ≡ behind key line
-key_behind [] line = refl
-key_behind (k ∷ ks) [] = refl
-key_behind (k ∷ ks) (b ∷ bs) =
-    elim (eqb b k) as (λ t. cond (t && pointwise eqb (take (length ks) bs) ks) (Some (drop (length ks) bs)) None ≡ cond t (behind ks bs) None) [ true ↦ key_behind ks bs | false ↦ refl ]
+-- a key that has no byte left stands in front of everything
+pub behind_none : (key line : List ℕ) → length key < 1 → Some line ≡ behind key line
+behind_none [] line h = refl
+behind_none (k ∷ ks) line h = absurd (omega arith)
+
+-- a key and a line that begin with the same byte
+pub behind_more : (key line : List ℕ) → alike line key ≡ true → behind key line ≡ behind (drop 1 key) (drop 1 line)
+behind_more [] [] e = absurd (true≢false (sym e))
+behind_more [] (b ∷ bs) e = absurd (true≢false (sym e))
+behind_more (k ∷ ks) [] e = absurd (true≢false (sym e))
+behind_more (k ∷ ks) (b ∷ bs) e = ap (λ t. cond t (behind ks bs) None) e

@@ -1,6 +1,7 @@
 -- What the reader of this crate stands for.
 --   place r            where the reader stands
 --   cut_at bs n        the line of n bytes and what stands behind its end; none where there is no such line
+--   alike bs cs        both begin with the same byte
 --   cut_view l r       the line that was read, if one was, and what the reader has left
 --   list_view a q      the list that was read, with the place behind it, or the fault
 --   FormsAs post f     calls that end in `post` make of the value of a line what the form f makes of it
@@ -10,7 +11,7 @@
 --   word_in c             the word of a call
 --   call_view rule a q    the call that was read, with the place behind it, or the fault
 --   read_view a q      what was read, with the place behind it, or the fault
-use Rattle.std.specs.Prelude.{◌≡◌, ℕ, ◌+◌, List, take, drop, Some, None, Ok, Err, Option, Result}
+use Rattle.std.specs.Prelude.{◌≡◌, ℕ, ◌+◌, Bool, false, List, [], ◌∷◌, take, drop, Some, None, Ok, Err, Option, Result, ◌==◌}
 use Rattle.std.specs.Borrow.{Bor, MutBor}
 use Rattle.shortlist.specs.declared.lists.ShortList.{ShortList}
 use Rattle.shortlist.specs.Lists.{listed}
@@ -33,6 +34,11 @@ place r = record { rest = r.rest.now; line = r.line }
 abbrev pub cut_at : List ℕ → Option ℕ → Option Cut
 cut_at bs None = None
 cut_at bs (Some n) = Some (record { line = take n bs; rest = drop (n + 1) bs })
+
+abbrev pub alike : List ℕ → List ℕ → Bool
+alike [] cs = false
+alike (b ∷ bs) [] = false
+alike (b ∷ bs) (c ∷ cs) = b == c
 
 abbrev pub cut_view : Option (Bor (List ℕ)) → Reader → Option Cut
 cut_view None r = None

@@ -106,6 +106,8 @@ module _ {C : Type 0} (k : Meaning C) (laws : Laws k) (rule : Rule) where
           stands = same ∙ is;
           found = found;
           followed = followed;
+          places = places;
+          bytes = bytes;
           answered = answered;
           promised = subst (λ s. Promised k asked (asked_able q buffer) s left.levels) (sym answered) (subst (λ ls. Promised k asked (asked_able q buffer) defined ls) (sym (levels_are ∙ ap (λ s. levels_after k asked s found.levels) answered)) (asked_promised b (subst (λ x. Fit rule x) is fit) q room buffer found.levels));
           list = listed ∙ ap (λ x. list_after k (rows (asked_book x q)) r found.list left.list) is;

@@ -7,6 +7,7 @@
 --   Life p calls q lent book r left  the life of a book of p: it follows the calls in what is `lent` to it, and is then asked.
 --       stands      the book is what the tally says of the calls
 --       followed    what the calls left is what was `found` by the last plan
+--       places, bytes   list and levels buffer were then as long as those that are lent
 --       answered    it answers r as defined on that tally
 --       promised    r has all that is promised of a plan
 --       list, levels    the last plan left the list and the levels buffer as planning does
@@ -47,6 +48,8 @@ module _ {C : Type 0} (k : Meaning C) (rows_of : BookFigures → List (Row C)) w
     pub stands : book ≡ lived p calls
     pub found : Lent C
     pub followed : Leaves k rows_of (book_figures p new_tally) calls lent found
+    pub places : length found.list ≡ length lent.list
+    pub bytes : length found.levels ≡ length lent.levels
     pub answered : r ≡ asked_answer (lived p calls) q (length lent.list) (length lent.levels)
     pub promised : Promised k (rows_of (asked_book (lived p calls) q)) (asked_able q (length lent.levels)) r left.levels
     pub list : left.list ≡ list_after k (rows_of (asked_book (lived p calls) q)) r found.list left.list

@@ -43,15 +43,16 @@ impl Processor {
     pub fn new(levels: &[Level], standby: &[u64]) -> Result<Processor, Fault>
         ensures { processor_view result ≡ processor_made (record { levels = levels.now; standby = standby.now }) }
     {
-        if levels.is_empty()
-            || !each_level_fits(levels)
-            || !each_level_rises(levels)
-            || !each_at_most(standby, 5000)
-        {
+        // too many are refused by their number, before any of them is looked at
+        let lowest = levels.first().ok_or(Fault::BadProcessor)?;
+        let few_levels = ShortList::of(levels, *lowest).ok_or(Fault::BadProcessor)?;
+        let few_devices = ShortList::of(standby, 0).ok_or(Fault::BadProcessor)?;
+        if !each_level_fits(levels) || !each_level_rises(levels) || !each_at_most(standby, 5000) {
             return Err(Fault::BadProcessor);
         }
-        let levels = ShortList::of(levels, levels[0]).ok_or(Fault::BadProcessor)?;
-        let standby = ShortList::of(standby, 0).ok_or(Fault::BadProcessor)?;
-        Ok(Processor { levels, standby })
+        Ok(Processor {
+            levels: few_levels,
+            standby: few_devices,
+        })
     }
 }

@@ -29,16 +29,22 @@ fn row_fits(rows: &[Row], row: &Row) -> bool
     (1..=48).contains(&row.port) && !nothing_offered(&row.offers) && port_free(rows, row.port)
 }
 
+// What stands in the places that no row has taken. A function of its own: a fill that is spelled out where
+// the places are filled is compiled to a store for each of its words and places, which runs slowly.
+fn no_row() -> Row {
+    Row {
+        port: 0,
+        limit: 0,
+        offers: [None; 8],
+    }
+}
+
 impl Rows {
     // No rows.
     pub fn none() -> Rows
         ensures { listed_rows result ≡ [] }
     {
-        let nothing = Row {
-            port: 0,
-            limit: 0,
-            offers: [None; 8],
-        };
+        let nothing = no_row();
         Rows {
             rows: ShortList::none(nothing),
         }
@@ -50,6 +56,9 @@ impl Rows {
         ensures answer { result ≡ (nat_lt (length (listed_rows self.old)) 48 && row_fits (listed_rows self.old) row.now) }
         ensures rows { listed_rows self.new ≡ (if result then listed_rows self.old ++ row.now ∷ [] else listed_rows self.old) }
     {
+        if self.rows().len() >= 48 {
+            return false;
+        }
         row_fits(self.rows(), row) && self.rows.push(*row)
     }
 

@@ -2,7 +2,7 @@
 ghost use Rattle.std.specs.Prelude.{◌≡◌, ℕ, List, Option, IfOk, ◌+◌, ◌<◌, ◌≤◌, length, drop, is_some, IfSome, if◌then◌else◌, Some, ◌==◌, position};
 ghost use Rattle.std.specs.Option.{option_map};
 ghost use Rattle.jobtext.specs.Lines.{cut, behind, Place, Reading, due, repeated};
-ghost use Rattle.jobtext.specs.Places.{place, cut_view, read_view, list_view, FormsAs, ReadsAs};
+ghost use Rattle.jobtext.specs.Places.{alike, place, cut_view, read_view, list_view, FormsAs, ReadsAs};
 
 use super::Reader;
 use plantext::faults::JobFault;
@@ -16,11 +16,28 @@ fn line_length(bytes: &[u8]) -> Option<usize>
     bytes.iter().position(|byte| *byte == b'\n')
 }
 
-// What stands behind the key, if the line begins with it.
+// Both begin with the same byte.
+fn begin_alike(line: &[u8], key: &[u8]) -> bool
+    ensures { result ≡ alike line.now key.now }
+{
+    match (line, key) {
+        ([byte, ..], [due, ..]) => *byte == *due,
+        _ => false,
+    }
+}
+
+// What stands behind the key, if the line begins with it. Byte by byte, and not by `strip_prefix`, so that
+// a byte that is not compared is refused for the clause above.
 fn value_behind<'a>(line: &'a [u8], key: &[u8]) -> Option<&'a [u8]>
     ensures { option_map (λ v. v.now) result ≡ behind key.now line.now }
 {
-    line.strip_prefix(key)
+    match key {
+        [] => Some(line),
+        [_, keys @ ..] => match line {
+            [_, rest @ ..] if begin_alike(line, key) => value_behind(rest, keys),
+            _ => None,
+        },
+    }
 }
 
 impl<'a> Reader<'a> {

@@ -83,7 +83,7 @@ returns g c =
     record {
       room = end.2;
       list = end.0;
-      states = end.1;
+      states = c.states_with.ensures ∙ end.1;
       within = omega (arith, whole.room, whole.same);
       last = record { ends = whole.room; pairs = whole.pairs; position = whole.placed };
     }

@@ -13,5 +13,5 @@ pub invariant_of-self : goal.invariant_of-self
 invariant_of-self c =
     let rs = listed_rows c.args.self.now in
     let r = c.args.row.now in
-    let ok : row_fits rs r ≡ true = sym (c.if-row_fits.ensures ∙ ap (λ xs. row_fits xs r) c.rows.ensures) in
+    let ok : row_fits rs r ≡ true = sym (c.if-row_fits.ensures ∙ ap (λ xs. row_fits xs r) c.rows-2.ensures) in
     record { fit = ap rows_fit c.push.ensures.items ∙ fit_joined (leb (length rs + 1) 48) rs r c.args.self.now.fit ok }
