@@ -1,7 +1,7 @@
 // Making a short list, reading it and adding to it.
 ghost use Rattle.std.specs.Prelude.{◌≡◌, ◌+◌, ◌<◌, ◌++◌, ◌∷◌, [], length, take, drop, nat_le, nat_lt, cond};
 ghost use Rattle.std.specs.Option.{option_map};
-ghost use Rattle.shortlist.specs.Lists.{listed, joined, inserted, within};
+ghost use Rattle.shortlist.specs.Lists.{listed, all_places, joined, inserted, within};
 
 use super::ShortList;
 
@@ -40,6 +40,13 @@ impl<T: Copy, const N: usize> ShortList<T, N> {
         ensures { result.now ≡ listed self.now }
     {
         &self.places[..self.count]
+    }
+
+    // What stands in all N places: the items, and behind them what is no item.
+    pub fn places(&self) -> &[T]
+        ensures { result.now ≡ all_places self.now }
+    {
+        &self.places[..]
     }
 
     // One item more, behind the others. False, and nothing changed, if there are N already.
