@@ -44,7 +44,8 @@ impl<T: Copy, const N: usize> ShortList<T, N> {
 
     // What stands in all N places: the items, and behind them what is no item.
     pub fn places(&self) -> &[T]
-        ensures { result.now ≡ all_places self.now }
+        ensures places { result.now ≡ all_places self.now }
+        ensures count { length result.now ≡ N }
     {
         &self.places[..]
     }
